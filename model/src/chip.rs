@@ -1,0 +1,740 @@
+//! The chip's record, its range (number 6), the refusal table, frames, ticks, cut and `perform`.
+
+use crate::calendar::{self, Reach};
+use crate::Act;
+
+// Instruction codes (000, table 3-1).
+pub const EEREAD: u8 = 0x03;
+pub const EEWRITE: u8 = 0x02;
+pub const EEWRDI: u8 = 0x04;
+pub const EEWREN: u8 = 0x06;
+pub const SRREAD: u8 = 0x05;
+pub const SRWRITE: u8 = 0x01;
+pub const READ: u8 = 0x13;
+pub const WRITE: u8 = 0x12;
+pub const UNLOCK: u8 = 0x14;
+pub const IDWRITE: u8 = 0x32;
+pub const IDREAD: u8 = 0x33;
+pub const CLRWDT: u8 = 0x44;
+pub const CLRRAM: u8 = 0x54;
+
+// Register addresses (000, table 4-1).
+pub const SECONDS: usize = 0x01; // bit 7: ST
+pub const HOURS: usize = 0x03; // bit 6: 12/24
+pub const DAY: usize = 0x04; // bit 5: OSCON, bit 3: VBATEN
+pub const MONTH: usize = 0x06; // bit 5: LP
+pub const YEAR: usize = 0x07;
+pub const CONTROL: usize = 0x08; // bits 5:4: alarms active
+pub const WATCHDOG: usize = 0x0A;
+pub const ALARM0_HOURS: usize = 0x0E;
+pub const ALARM0_DAY: usize = 0x0F;
+pub const ALARM1_HOURS: usize = 0x15;
+pub const ALARM1_DAY: usize = 0x16;
+
+/// 01 "Frames": "the mask of writable bits, 00h to 1Fh".
+pub const WRITABLE: [u8; 32] = [
+    0xFF, 0xFF, 0x7F, 0xFF, 0x1F, 0x3F, 0x1F, 0xFF, //
+    0xFF, 0xFF, 0xFF, 0xFF, 0x7F, 0x7F, 0x3F, 0xFF, //
+    0x3F, 0x1F, 0xFF, 0x7F, 0x7F, 0x3F, 0xFF, 0x3F, //
+    0, 0, 0, 0, 0, 0, 0, 0,
+];
+
+/// Watchdog periods in ticks, by bits 2:0 of 0Ah.
+pub const PERIODS: [u64; 8] = [32, 512, 2_048, 4_096, 32_768, 524_288, 1_048_576, 2_097_152];
+
+pub const DELAY: u64 = 2_097_152;
+pub const WRITE_CYCLE: u64 = 164;
+pub const START_UP: u64 = 32;
+pub const SHORT_PULSE: u64 = 4;
+pub const LONG_PULSE: u64 = 4_096;
+pub const DIVIDER: u64 = 32_768;
+pub const LONGEST_WAIT: u64 = 16_777_216;
+pub const ID_LENGTH: usize = 16;
+
+/// BP1:BP0 of STATUS.
+#[derive(Clone, Copy, Debug, PartialEq, Eq)]
+pub enum Protection {
+    Nothing,
+    Quarter,
+    Half,
+    All,
+}
+
+impl Protection {
+    pub fn from_bits(bits: u8) -> Self {
+        match bits & 3 {
+            0 => Protection::Nothing,
+            1 => Protection::Quarter,
+            2 => Protection::Half,
+            _ => Protection::All,
+        }
+    }
+
+    pub fn bits(self) -> u8 {
+        self as u8
+    }
+
+    /// "BP 01 protects the upper quarter, 10 the upper half, 11 all."
+    pub fn first_protected(self, length: usize) -> usize {
+        match self {
+            Protection::Nothing => length,
+            Protection::Quarter => length / 4 * 3,
+            Protection::Half => length / 2,
+            Protection::All => 0,
+        }
+    }
+}
+
+/// The lock of the ID bytes: closed, UNLOCK 55h came, open.
+#[derive(Clone, Copy, Debug, PartialEq, Eq)]
+pub enum Lock {
+    Closed,
+    FirstStep,
+    Open,
+}
+
+/// How many whole bytes a frame has had; more than two are alike.
+#[derive(Clone, Copy, Debug, PartialEq, Eq)]
+pub enum Bytes {
+    One,
+    Two,
+    More,
+}
+
+#[derive(Clone, Copy, Debug, PartialEq, Eq)]
+pub enum Frame {
+    /// Not selected.
+    Idle,
+    /// Selected, no whole byte yet.
+    Empty,
+    /// The first byte came while WIP was set and is not heard then.
+    Unheard,
+    /// `second` is the second byte of UNLOCK and SRWRITE, else 0.
+    Heard { code: u8, bytes: Bytes, second: u8 },
+}
+
+/// What a write cycle writes. EEPROM and ID pages are those in which the pointers lie.
+#[derive(Clone, Copy, Debug, PartialEq, Eq)]
+pub enum Target {
+    Eeprom,
+    Id,
+    Status(Protection),
+}
+
+#[derive(Clone, Debug, PartialEq, Eq)]
+pub struct Device {
+    pub power: bool,
+    pub registers: [u8; 32],
+    pub sram: [u8; 64],
+    pub frame: Frame,
+    pub eeprom_pointer: u64,
+    pub id_pointer: u64,
+    pub clock_pointer: u8,
+    /// The page load: the offset that the next data byte goes to, and the bytes that came. A
+    /// running cycle reads the load and the pointers; no frame that is heard then moves them.
+    pub offset: u64,
+    pub loaded: [Option<u8>; 8],
+    pub target: Target,
+    /// Ticks left of the write cycle; 0 is no cycle.
+    pub countdown: u64,
+    pub wel: bool,
+    pub protection: Protection,
+    pub lock: Lock,
+    pub divider: u64,
+    pub start_up: u64,
+    pub watchdog: u64,
+    pub delay: u64,
+    pub pulse: u64,
+}
+
+/// 01 "Fresh": "registers 0 but day, date and month 01h".
+pub const FRESH_REGISTERS: [u8; 32] = {
+    let mut registers = [0; 32];
+    registers[0x04] = 0x01;
+    registers[0x05] = 0x01;
+    registers[0x06] = 0x01;
+    registers
+};
+
+/// The four parts (01 "The tape"): 1 W 1K, 2 W 2K, 3 B 1K, 4 B 2K.
+pub fn part_exists(part: u64) -> bool {
+    (1..=4).contains(&part)
+}
+
+pub fn eeprom_length(part: u64) -> usize {
+    if part == 1 || part == 3 {
+        128
+    } else {
+        256
+    }
+}
+
+pub fn is_b_part(part: u64) -> bool {
+    part >= 3
+}
+
+impl Device {
+    pub fn fresh() -> Device {
+        Device {
+            power: true,
+            registers: FRESH_REGISTERS,
+            sram: [0; 64],
+            frame: Frame::Idle,
+            eeprom_pointer: 0,
+            id_pointer: 0,
+            clock_pointer: 0,
+            offset: 0,
+            loaded: [None; 8],
+            target: Target::Eeprom,
+            countdown: 0,
+            wel: false,
+            protection: Protection::Nothing,
+            lock: Lock::Closed,
+            divider: 0,
+            start_up: 0,
+            watchdog: 0,
+            delay: 0,
+            pulse: 0,
+        }
+    }
+
+    pub fn selected(&self) -> bool {
+        self.frame != Frame::Idle
+    }
+
+    pub fn wip(&self) -> bool {
+        self.countdown > 0
+    }
+
+    pub fn oscon(&self) -> bool {
+        self.start_up == START_UP
+    }
+
+    fn bit(&self, register: usize, bit: u8) -> bool {
+        self.registers[register] >> bit & 1 == 1
+    }
+
+    fn st(&self) -> bool {
+        self.bit(SECONDS, 7)
+    }
+
+    fn vbaten(&self) -> bool {
+        self.bit(DAY, 3)
+    }
+
+    fn period(&self) -> u64 {
+        PERIODS[usize::from(self.registers[WATCHDOG] & 7)]
+    }
+
+    /// Bit 0 WIP, 1 WEL, 2 BP0, 3 BP1, the rest 0.
+    pub fn status(&self) -> u8 {
+        u8::from(self.wip()) | u8::from(self.wel) << 1 | self.protection.bits() << 2
+    }
+
+    /// An alarm that is active, has its flag set, and is shown on the pin that bit 7 picks.
+    fn alarm_holds(&self, on_wdo: bool) -> bool {
+        [(4, ALARM0_DAY), (5, ALARM1_DAY)].iter().any(|&(active, day)| {
+            self.bit(CONTROL, active) && self.bit(day, 3) && self.bit(day, 7) == on_wdo
+        })
+    }
+
+    /// The level of IRQ: low while an active alarm's flag is set and its bit 7 clear.
+    pub fn irq(&self) -> bool {
+        !self.alarm_holds(false)
+    }
+
+    /// The level of WDO: low while the pulse runs or an alarm holds it.
+    pub fn wdo(&self) -> bool {
+        self.pulse == 0 && !self.alarm_holds(true)
+    }
+
+    fn lines(&self) -> (bool, bool, bool) {
+        (self.irq(), self.wdo(), self.wip())
+    }
+}
+
+// ---------------------------------------------------------------------------------------------
+// Refusals
+
+/// "If set, only SRREAD, READ, WRITE, CLRWDT, CLRRAM are heard."
+pub fn heard_under_wip(code: u8) -> bool {
+    matches!(code, SRREAD | READ | WRITE | CLRWDT | CLRRAM)
+}
+
+/// Number 6, row by row.
+pub fn out_of_range(part: u64, device: &Device) -> bool {
+    let deaf_frame_open = match device.frame {
+        Frame::Heard { code, .. } => !heard_under_wip(code),
+        _ => false,
+    };
+    device.divider > 32_767
+        || device.start_up > 32
+        || device.countdown > 164
+        || device.pulse > 4_096
+        || device.delay > 2_097_152
+        || device.watchdog >= device.period()
+        || device.offset > 7
+        || device.id_pointer > 15
+        || device.eeprom_pointer >= eeprom_length(part) as u64
+        || (0..32).any(|r| device.registers[r] & !WRITABLE[r] != 0)
+        || device.start_up > 0 && !is_b_part(part) && !device.st()
+        || !device.power && (device.selected() || device.wip())
+        || device.wip() && deaf_frame_open
+}
+
+/// Number 3 for the act's number.
+pub fn number_too_large(act: Act, number: u64) -> bool {
+    let limit = match act {
+        Act::End => 7,
+        Act::Wait => LONGEST_WAIT,
+        Act::Byte | Act::Cut => 255,
+        Act::Select | Act::Up => 0,
+    };
+    number > limit
+}
+
+/// The refusal table: "3 for the part, 4, 6, 3, 5, then 1 or 2". 0 is done.
+pub fn refusal(part: u64, act: Act, number: u64, device: &Device, eeprom: &[u8], id: &[u8]) -> u64 {
+    if !part_exists(part) {
+        return 3;
+    }
+    if eeprom.len() != eeprom_length(part) || id.len() != ID_LENGTH {
+        return 4;
+    }
+    if out_of_range(part, device) {
+        return 6;
+    }
+    if number_too_large(act, number) {
+        return 3;
+    }
+    let power_is_wrong = match act {
+        Act::Select | Act::Byte | Act::End | Act::Cut => !device.power,
+        Act::Up => device.power,
+        Act::Wait => false,
+    };
+    if power_is_wrong {
+        return 5;
+    }
+    match act {
+        Act::Select if device.selected() => 1,
+        Act::Byte | Act::End if !device.selected() => 2,
+        _ => 0,
+    }
+}
+
+// ---------------------------------------------------------------------------------------------
+// Registers and SRAM
+
+/// The byte that READ answers: bits that are made when read are not stored.
+pub fn read_clock(device: &Device, address: u8) -> u8 {
+    let address = usize::from(address);
+    match address {
+        0x00..=0x1F => {
+            let made = match address {
+                DAY => u8::from(device.oscon()) << 5,
+                MONTH => u8::from(calendar::leap(device.registers[YEAR])) << 5,
+                ALARM0_HOURS | ALARM1_HOURS => device.registers[HOURS] & 0x40,
+                _ => 0,
+            };
+            device.registers[address] | made
+        }
+        0x20..=0x5F => device.sram[address - 0x20],
+        _ => 0,
+    }
+}
+
+fn write_clock(part: u64, device: &mut Device, address: u8, byte: u8) {
+    let address = usize::from(address);
+    match address {
+        0x00..=0x1F => {
+            device.registers[address] = byte & WRITABLE[address];
+            after_register_write(part, device, address);
+        }
+        0x20..=0x5F => device.sram[address - 0x20] = byte,
+        _ => {}
+    }
+}
+
+fn after_register_write(part: u64, device: &mut Device, address: usize) {
+    if address == SECONDS && !is_b_part(part) && !device.st() {
+        device.start_up = 0;
+    }
+    if address == WATCHDOG {
+        device.watchdog = 0;
+        // Bits 7 and 5 set, 6 clear.
+        let delayed = device.registers[WATCHDOG] & 0b1110_0000 == 0b1010_0000;
+        device.delay = if delayed { DELAY } else { 0 };
+    }
+}
+
+/// "Clock block 1Fh to 00h, SRAM 5Fh to 20h"; from 60h up "the pointer stays (bench)".
+pub fn next_clock_address(address: u8) -> u8 {
+    match address {
+        0x1F => 0x00,
+        0x5F => 0x20,
+        0x60.. => address,
+        _ => address + 1,
+    }
+}
+
+// ---------------------------------------------------------------------------------------------
+// Frames
+
+fn byte(part: u64, device: &mut Device, byte: u8, eeprom: &[u8], id: &[u8]) -> Option<u8> {
+    match device.frame {
+        Frame::Idle | Frame::Unheard => None,
+        Frame::Empty => {
+            let heard = !device.wip() || heard_under_wip(byte);
+            device.frame = if heard {
+                Frame::Heard { code: byte, bytes: Bytes::One, second: 0 }
+            } else {
+                Frame::Unheard
+            };
+            None
+        }
+        Frame::Heard { code, bytes: Bytes::One, .. } => {
+            let second = match code {
+                UNLOCK | SRWRITE => byte,
+                _ => 0,
+            };
+            device.frame = Frame::Heard { code, bytes: Bytes::Two, second };
+            second_byte(part, device, code, byte)
+        }
+        Frame::Heard { code, second, .. } => {
+            device.frame = Frame::Heard { code, bytes: Bytes::More, second };
+            data_byte(part, device, code, byte, eeprom, id)
+        }
+    }
+}
+
+fn second_byte(part: u64, device: &mut Device, code: u8, byte: u8) -> Option<u8> {
+    match code {
+        EEREAD | EEWRITE => {
+            // "a 1 Kbit part drops address bit 7"
+            device.eeprom_pointer = u64::from(byte) % eeprom_length(part) as u64;
+            device.offset = u64::from(byte % 8);
+            device.loaded = [None; 8];
+        }
+        IDREAD | IDWRITE => {
+            // "ID address is taken modulo 16"
+            device.id_pointer = u64::from(byte % 16);
+            device.offset = u64::from(byte % 8);
+            device.loaded = [None; 8];
+        }
+        READ | WRITE => device.clock_pointer = byte,
+        SRREAD => return Some(device.status()),
+        _ => {}
+    }
+    None
+}
+
+fn data_byte(
+    part: u64,
+    device: &mut Device,
+    code: u8,
+    byte: u8,
+    eeprom: &[u8],
+    id: &[u8],
+) -> Option<u8> {
+    match code {
+        EEREAD => {
+            let reply = eeprom[device.eeprom_pointer as usize];
+            device.eeprom_pointer = (device.eeprom_pointer + 1) % eeprom_length(part) as u64;
+            Some(reply)
+        }
+        IDREAD => {
+            let reply = id[device.id_pointer as usize];
+            device.id_pointer = (device.id_pointer + 1) % 16;
+            Some(reply)
+        }
+        READ => {
+            let reply = read_clock(device, device.clock_pointer);
+            device.clock_pointer = next_clock_address(device.clock_pointer);
+            Some(reply)
+        }
+        SRREAD => Some(device.status()),
+        WRITE => {
+            write_clock(part, device, device.clock_pointer, byte);
+            device.clock_pointer = next_clock_address(device.clock_pointer);
+            None
+        }
+        EEWRITE | IDWRITE => {
+            // "Later bytes roll inside the page and replace earlier ones."
+            device.loaded[device.offset as usize] = Some(byte);
+            device.offset = (device.offset + 1) % 8;
+            None
+        }
+        _ => None,
+    }
+}
+
+fn end(part: u64, device: &mut Device, leftover: u64) {
+    if let Frame::Heard { code, bytes, second } = device.frame {
+        let whole = leftover == 0;
+        match code {
+            EEWREN if bytes == Bytes::One && whole => device.wel = true,
+            EEWRDI if bytes == Bytes::One && whole => device.wel = false,
+            CLRWDT if bytes != Bytes::More && whole => device.watchdog = 0,
+            CLRRAM if bytes != Bytes::More && whole => device.sram = [0; 64],
+            EEWRITE | IDWRITE if bytes == Bytes::More => end_page_write(part, device, code, whole),
+            SRWRITE if bytes != Bytes::One => {
+                let carried = device.wel && bytes == Bytes::Two && whole;
+                let protection = Protection::from_bits(second >> 2);
+                end_write(device, carried, Target::Status(protection));
+            }
+            _ => {}
+        }
+        device.lock = lock_after_end(device.lock, code, bytes == Bytes::Two && whole, second);
+    }
+    device.frame = Frame::Idle;
+}
+
+fn end_page_write(part: u64, device: &mut Device, code: u8, whole: bool) {
+    let (free, target) = if code == EEWRITE {
+        let page = device.eeprom_pointer as usize / 8 * 8;
+        (page < device.protection.first_protected(eeprom_length(part)), Target::Eeprom)
+    } else {
+        (device.lock == Lock::Open, Target::Id)
+    };
+    end_write(device, device.wel && whole && free, target);
+}
+
+/// A write frame with at least one data byte: "carried into its cycle", or else "WEL clears".
+fn end_write(device: &mut Device, carried: bool, target: Target) {
+    if carried {
+        device.target = target;
+        device.countdown = WRITE_CYCLE;
+    } else {
+        device.wel = false;
+    }
+}
+
+/// 01 "Lock (bench)". `two_whole`: two bytes came and no bit is left over.
+fn lock_after_end(lock: Lock, code: u8, two_whole: bool, second: u8) -> Lock {
+    match code {
+        UNLOCK => match (two_whole, second, lock) {
+            (true, 0x55, _) => Lock::FirstStep,
+            (true, 0xAA, Lock::FirstStep) => Lock::Open,
+            _ => Lock::Closed,
+        },
+        EEWREN | SRREAD => lock,
+        _ => Lock::Closed,
+    }
+}
+
+// ---------------------------------------------------------------------------------------------
+// Ticks
+
+/// Stores what the cycle loaded, at the offsets under the mask; gives how many were stored.
+fn store(device: &mut Device, mask: u8, eeprom: &mut [u8], id: &mut [u8]) -> u64 {
+    let (memory, page) = match device.target {
+        Target::Eeprom => (eeprom, device.eeprom_pointer as usize / 8 * 8),
+        Target::Id => (id, device.id_pointer as usize / 8 * 8),
+        Target::Status(protection) => {
+            if mask & 1 == 1 {
+                device.protection = protection;
+            }
+            return u64::from(mask & 1);
+        }
+    };
+    let mut stored = 0;
+    for offset in 0..8 {
+        if let (Some(byte), 1) = (device.loaded[offset], mask >> offset & 1) {
+            memory[page + offset] = byte;
+            stored += 1;
+        }
+    }
+    stored
+}
+
+/// One tick: "write cycle, oscillator, watchdog, calendar, alarms".
+pub fn tick(part: u64, device: &mut Device, eeprom: &mut [u8], id: &mut [u8]) {
+    if !device.power && !device.vbaten() {
+        return; // 01 "Power cut": nothing counts
+    }
+    if device.countdown > 0 {
+        device.countdown -= 1;
+        if device.countdown == 0 {
+            store(device, 0xFF, eeprom, id);
+            device.wel = false;
+        }
+    }
+    let counted = tick_oscillator(part, device);
+    tick_watchdog(device, counted);
+    if counted && device.st() {
+        if let Some(reach) = tick_calendar(device) {
+            tick_alarms(device, reach);
+        }
+    }
+}
+
+/// Gives whether this tick counts: "OSCON sets at the 32nd such tick; only later ticks count".
+fn tick_oscillator(part: u64, device: &mut Device) -> bool {
+    let counted = device.oscon();
+    let asked = is_b_part(part) || device.st();
+    if asked && !counted {
+        device.start_up += 1;
+    }
+    counted
+}
+
+fn tick_watchdog(device: &mut Device, counted: bool) {
+    device.pulse = device.pulse.saturating_sub(1);
+    if !counted || !device.bit(WATCHDOG, 7) || device.bit(WATCHDOG, 6) {
+        return;
+    }
+    if device.delay > 0 {
+        device.delay -= 1;
+        return;
+    }
+    device.watchdog += 1;
+    if device.watchdog == device.period() {
+        device.watchdog = 0;
+        device.registers[WATCHDOG] |= 0x40;
+        device.pulse = if device.bit(WATCHDOG, 4) { LONG_PULSE } else { SHORT_PULSE };
+    }
+}
+
+/// "Hundredths advance at each counted tick where floor(100s/32768) grows as s goes from the
+/// divider to the divider plus one; 32,768 is then 0."
+fn tick_calendar(device: &mut Device) -> Option<Reach> {
+    let before = device.divider;
+    let after = before + 1;
+    device.divider = after % DIVIDER;
+    if 100 * after / DIVIDER == 100 * before / DIVIDER {
+        return None;
+    }
+    let mut time = [0; 8];
+    time.copy_from_slice(&device.registers[..8]);
+    let reach = calendar::step(&mut time);
+    device.registers[..8].copy_from_slice(&time);
+    Some(reach)
+}
+
+/// A compared field: its time register, the compared bits, and how far a step must reach to
+/// advance it.
+struct Field(usize, u8, Reach);
+
+const HUNDREDTHS_FIELD: Field = Field(0x00, 0xFF, Reach::Hundredths);
+const SECONDS_FIELD: Field = Field(0x01, 0x7F, Reach::Seconds);
+const MINUTES_FIELD: Field = Field(0x02, 0x7F, Reach::Minutes);
+const HOURS_FIELD: Field = Field(0x03, 0x3F, Reach::Hours);
+const DAY_FIELD: Field = Field(0x04, 0x07, Reach::Date);
+const DATE_FIELD: Field = Field(0x05, 0x3F, Reach::Date);
+const MONTH_FIELD: Field = Field(0x06, 0x1F, Reach::Month);
+
+/// Alarm 0 has seconds to month at 0Ch to 11h, alarm 1 hundredths to date at 12h to 17h.
+const ALARM0_BASE: usize = 0x0B;
+const ALARM1_BASE: usize = 0x12;
+
+/// The fields that an alarm compares, the finest first; none for a code that never matches.
+fn compared(alarm1: bool, code: u8) -> &'static [Field] {
+    match (code, alarm1) {
+        (0, _) => &[SECONDS_FIELD],
+        (1, _) => &[MINUTES_FIELD],
+        (2, _) => &[HOURS_FIELD],
+        (3, _) => &[DAY_FIELD],
+        (4, _) => &[DATE_FIELD],
+        (5, true) => &[HUNDREDTHS_FIELD],
+        (7, false) => {
+            &[SECONDS_FIELD, MINUTES_FIELD, HOURS_FIELD, DAY_FIELD, DATE_FIELD, MONTH_FIELD]
+        }
+        (7, true) => &[SECONDS_FIELD, MINUTES_FIELD, HOURS_FIELD, DAY_FIELD, DATE_FIELD],
+        _ => &[],
+    }
+}
+
+/// "An alarm active in 08h (bit 4, bit 5) is tested at the tick that advances the finest field
+/// it compares (bench) [..] a match sets bit 3 of 0Fh or 16h."
+fn tick_alarms(device: &mut Device, reach: Reach) {
+    let alarms = [(false, 4, ALARM0_DAY, ALARM0_BASE), (true, 5, ALARM1_DAY, ALARM1_BASE)];
+    for (alarm1, active, day, base) in alarms {
+        let fields = compared(alarm1, device.registers[day] >> 4 & 7);
+        let tested = match fields.first() {
+            Some(Field(_, _, finest)) => device.bit(CONTROL, active) && reach >= *finest,
+            None => false,
+        };
+        let equal = |&Field(register, bits, _): &Field| {
+            (device.registers[register] ^ device.registers[base + register]) & bits == 0
+        };
+        if tested && fields.iter().all(equal) {
+            device.registers[day] |= 0x08;
+        }
+    }
+}
+
+/// "A wait stops after the first tick that changed IRQ, WDO or WIP, or after n; it reports the
+/// ticks used."
+fn wait(part: u64, device: &mut Device, n: u64, eeprom: &mut [u8], id: &mut [u8]) -> u64 {
+    if !device.power && !device.vbaten() {
+        return n; // every tick would change nothing
+    }
+    let lines = device.lines();
+    for used in 1..=n {
+        tick(part, device, eeprom, id);
+        if device.lines() != lines {
+            return used;
+        }
+    }
+    n
+}
+
+// ---------------------------------------------------------------------------------------------
+// Power
+
+/// 01 "Power cut"; gives how many bytes were stored.
+fn cut(device: &mut Device, mask: u8, eeprom: &mut [u8], id: &mut [u8]) -> u64 {
+    let stored = if device.wip() { store(device, mask, eeprom, id) } else { 0 };
+    device.power = false;
+    device.countdown = 0;
+    device.frame = Frame::Idle;
+    device.wel = false;
+    device.lock = Lock::Closed;
+    device.registers[WATCHDOG] &= !0x80;
+    device.watchdog = 0;
+    device.delay = 0;
+    device.pulse = 0;
+    if !device.vbaten() {
+        device.registers = FRESH_REGISTERS;
+        device.sram = [0; 64];
+        device.divider = 0;
+        device.start_up = 0;
+    }
+    stored
+}
+
+// ---------------------------------------------------------------------------------------------
+// Acts
+
+/// `count` is a wait's ticks used or a cut's stored bytes, else 0.
+#[derive(Clone, Copy, Debug, PartialEq, Eq)]
+pub struct Answer {
+    pub number: u64,
+    pub reply: Option<u8>,
+    pub count: u64,
+}
+
+/// One act. "Numbers 1 to 7 answer no reply and change nothing."
+pub fn perform(
+    part: u64,
+    act: Act,
+    number: u64,
+    device: &mut Device,
+    eeprom: &mut [u8],
+    id: &mut [u8],
+) -> Answer {
+    let mut answer =
+        Answer { number: refusal(part, act, number, device, eeprom, id), reply: None, count: 0 };
+    if answer.number != 0 {
+        return answer;
+    }
+    match act {
+        Act::Select => device.frame = Frame::Empty,
+        Act::Byte => answer.reply = byte(part, device, number as u8, eeprom, id),
+        Act::End => end(part, device, number),
+        Act::Wait => answer.count = wait(part, device, number, eeprom, id),
+        Act::Cut => answer.count = cut(device, number as u8, eeprom, id),
+        Act::Up => device.power = true,
+    }
+    answer
+}

@@ -1,0 +1,229 @@
+//! The ledger of 01 "The ledger": which bytes the acts of a run should have written. It is fed
+//! each act with its number and a wait's ticks used, and knows nothing of the chip's record.
+
+use crate::{Act, ERASED};
+
+#[derive(Clone, Copy, Debug, PartialEq, Eq)]
+pub enum Memory {
+    Eeprom,
+    Id,
+}
+
+/// What a cycle writes, and where: the first place of a page, or STATUS.
+#[derive(Clone, Copy, Debug, PartialEq, Eq)]
+pub enum Kind {
+    Page(Memory, usize),
+    Status(u8),
+}
+
+#[derive(Clone, Debug, PartialEq, Eq)]
+pub struct Cycle {
+    pub kind: Kind,
+    pub loaded: [Option<u8>; 8],
+    pub left: u64,
+}
+
+#[derive(Clone, Debug, PartialEq, Eq)]
+pub struct Frame {
+    pub heard: bool,
+    pub code: u8,
+    pub second: u8,
+    pub bytes: u64,
+    pub page: usize,
+    pub next: usize,
+    pub loaded: [Option<u8>; 8],
+}
+
+#[derive(Clone, Debug, PartialEq, Eq)]
+pub struct Entry {
+    pub memory: Memory,
+    pub place: usize,
+    pub byte: u8,
+}
+
+#[derive(Clone, Copy, Debug, PartialEq, Eq)]
+pub enum Lock {
+    Closed,
+    Half,
+    Open,
+}
+
+#[derive(Clone, Debug, PartialEq, Eq)]
+pub struct Ledger {
+    pub small: bool,
+    pub power: bool,
+    pub wel: bool,
+    pub bp: u8,
+    pub lock: Lock,
+    /// None is not selected.
+    pub frame: Option<Frame>,
+    pub cycle: Option<Cycle>,
+    pub entries: Vec<Entry>,
+}
+
+const NO_FRAME_BYTE: Frame =
+    Frame { heard: false, code: 0, second: 0, bytes: 0, page: 0, next: 0, loaded: [None; 8] };
+
+impl Ledger {
+    /// "It starts fresh, with no cycle or entry." Parts 1 and 3 have the small EEPROM.
+    pub fn new(part: u64) -> Ledger {
+        Ledger {
+            small: part == 1 || part == 3,
+            power: true,
+            wel: false,
+            bp: 0,
+            lock: Lock::Closed,
+            frame: None,
+            cycle: None,
+            entries: Vec::new(),
+        }
+    }
+
+    /// "A byte is that of the last entry for its place, else FFh."
+    pub fn byte_at(&self, memory: Memory, place: usize) -> u8 {
+        let written = |e: &&Entry| e.memory == memory && e.place == place;
+        self.entries.iter().rev().find(written).map_or(ERASED, |e| e.byte)
+    }
+
+    /// `ticks` is a wait's ticks used; it is looked at for a wait only.
+    pub fn feed(&mut self, act: Act, number: u64, ticks: u64) {
+        if self.refuses(act, number) {
+            return;
+        }
+        match act {
+            Act::Select => self.frame = Some(NO_FRAME_BYTE),
+            Act::Byte => self.byte(number as u8),
+            Act::End => self.end(number),
+            Act::Wait => self.wait(ticks),
+            Act::Cut => self.cut(number as u8),
+            Act::Up => self.power = true,
+        }
+    }
+
+    fn refuses(&self, act: Act, number: u64) -> bool {
+        let selected = self.frame.is_some();
+        match act {
+            Act::Select => number != 0 || !self.power || selected,
+            Act::Byte => number > 255 || !self.power || !selected,
+            Act::End => number > 7 || !self.power || !selected,
+            Act::Wait => number > 16_777_216,
+            Act::Cut => number > 255 || !self.power,
+            Act::Up => number != 0 || self.power,
+        }
+    }
+
+    fn byte(&mut self, byte: u8) {
+        let wip = self.cycle.is_some();
+        let size = if self.small { 128 } else { 256 };
+        let Some(frame) = &mut self.frame else { return };
+        match (frame.bytes, frame.code) {
+            (0, _) => {
+                frame.code = byte;
+                // SRREAD, READ, WRITE, CLRWDT, CLRRAM
+                frame.heard = !wip || [0x05, 0x13, 0x12, 0x44, 0x54].contains(&byte);
+            }
+            (1, _) => {
+                frame.second = byte;
+                let place = usize::from(byte) % if frame.code == 0x32 { 16 } else { size };
+                frame.page = place - place % 8;
+                frame.next = place % 8;
+            }
+            (_, 0x02 | 0x32) => {
+                frame.loaded[frame.next] = Some(byte);
+                frame.next = (frame.next + 1) % 8;
+            }
+            _ => {}
+        }
+        frame.bytes += 1;
+    }
+
+    fn end(&mut self, leftover: u64) {
+        let Some(frame) = self.frame.take() else { return };
+        if !frame.heard {
+            return;
+        }
+        let carried = self.carried(&frame, leftover);
+        if let Some(kind) = carried {
+            self.cycle = Some(Cycle { kind, loaded: frame.loaded, left: 164 });
+        }
+        match frame.code {
+            0x06 if frame.bytes == 1 && leftover == 0 => self.wel = true,
+            0x04 if frame.bytes == 1 && leftover == 0 => self.wel = false,
+            0x02 | 0x32 if frame.bytes > 2 && carried.is_none() => self.wel = false,
+            0x01 if frame.bytes > 1 && carried.is_none() => self.wel = false,
+            _ => {}
+        }
+        self.lock = match frame.code {
+            0x14 if frame.bytes == 2 && leftover == 0 && frame.second == 0x55 => Lock::Half,
+            0x14 if frame.bytes == 2 && leftover == 0 && frame.second == 0xAA => {
+                if self.lock == Lock::Half {
+                    Lock::Open
+                } else {
+                    Lock::Closed
+                }
+            }
+            0x06 | 0x05 => self.lock,
+            _ => Lock::Closed,
+        };
+    }
+
+    /// "A write is carried into its cycle when WEL is set, at least one data byte came (SRWRITE:
+    /// exactly one), no bit is left over, the page is not protected (EEWRITE) or the lock is
+    /// open (IDWRITE)."
+    fn carried(&self, frame: &Frame, leftover: u64) -> Option<Kind> {
+        if !self.wel || leftover != 0 {
+            return None;
+        }
+        match frame.code {
+            0x02 if frame.bytes > 2 && !self.protects(frame.page) => {
+                Some(Kind::Page(Memory::Eeprom, frame.page))
+            }
+            0x32 if frame.bytes > 2 && self.lock == Lock::Open => {
+                Some(Kind::Page(Memory::Id, frame.page))
+            }
+            0x01 if frame.bytes == 2 => Some(Kind::Status(frame.second >> 2 & 3)),
+            _ => None,
+        }
+    }
+
+    /// In quarters of the memory: BP 01 the upper one, 10 the upper two, 11 all four.
+    fn protects(&self, page: usize) -> bool {
+        let quarter = page / if self.small { 32 } else { 64 };
+        quarter >= [4, 3, 2, 0][usize::from(self.bp)]
+    }
+
+    fn wait(&mut self, ticks: u64) {
+        let Some(cycle) = &mut self.cycle else { return };
+        cycle.left = cycle.left.saturating_sub(ticks);
+        if cycle.left == 0 {
+            self.store(0xFF);
+            self.cycle = None;
+            self.wel = false;
+        }
+    }
+
+    /// The bytes of the cycle under the mask become entries, or BP changes under bit 0.
+    fn store(&mut self, mask: u8) {
+        let Some(cycle) = &self.cycle else { return };
+        match cycle.kind {
+            Kind::Page(memory, page) => {
+                for (offset, loaded) in cycle.loaded.iter().enumerate() {
+                    if let (Some(byte), true) = (*loaded, mask & 1 << offset != 0) {
+                        self.entries.push(Entry { memory, place: page + offset, byte });
+                    }
+                }
+            }
+            Kind::Status(bp) if mask & 1 != 0 => self.bp = bp,
+            Kind::Status(_) => {}
+        }
+    }
+
+    fn cut(&mut self, mask: u8) {
+        self.store(mask);
+        self.power = false;
+        self.cycle = None;
+        self.frame = None;
+        self.wel = false;
+        self.lock = Lock::Closed;
+    }
+}

@@ -1,0 +1,22 @@
+//! A second, independent copy of the MCP795XX, tick by tick, from the papers alone
+//! ("01" is the outline with its exact rules, "000" and "002" are the sheets).
+
+pub mod calendar;
+pub mod chip;
+pub mod generate;
+pub mod ledger;
+pub mod tape;
+
+/// The six acts (01's word), each with a number.
+#[derive(Clone, Copy, Debug, PartialEq, Eq)]
+pub enum Act {
+    Select,
+    Byte,
+    End,
+    Wait,
+    Cut,
+    Up,
+}
+
+/// 01 "Fresh": both memories are filled with FFh.
+pub const ERASED: u8 = 0xFF;
