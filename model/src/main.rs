@@ -1,6 +1,7 @@
-//! `model` answers the tape on standard input, `model FILE...` each file in turn, and
-//! `model --generate SEED LINES` writes a random tape.
+//! `model` answers the tape on standard input, `model FILE...` each file in turn, each starting
+//! without a part, and `model --generate SEED LINES` writes a random tape.
 
+use std::ffi::OsString;
 use std::fs::File;
 use std::io::{self, Read, Write};
 use std::process::ExitCode;
@@ -28,23 +29,46 @@ fn run(mut input: impl Read, output: &mut impl Write) -> io::Result<()> {
     }
 }
 
-fn main() -> ExitCode {
-    let arguments: Vec<String> = std::env::args().skip(1).collect();
-    let mut output = io::stdout().lock();
-    let words: Vec<&str> = arguments.iter().map(String::as_str).collect();
-    let mut status = ExitCode::SUCCESS;
-    let mut report = |name: &str, error: io::Error| {
-        eprintln!("model: {name}: {error}");
-        status = ExitCode::FAILURE;
-    };
-    if words.is_empty() {
-        if let Err(error) = run(io::stdin().lock(), &mut output) {
-            report("standard input", error);
-        }
+/// The two numbers after `--generate`.
+fn seed_and_lines(words: &[OsString]) -> Option<(u64, u64)> {
+    match words {
+        [seed, lines] => Some((seed.to_str()?.parse().ok()?, lines.to_str()?.parse().ok()?)),
+        _ => None,
     }
+}
+
+fn report(name: &str, error: io::Error) -> ExitCode {
+    eprintln!("model: {name}: {error}");
+    ExitCode::FAILURE
+}
+
+fn generate(words: &[OsString]) -> ExitCode {
+    let Some((seed, lines)) = seed_and_lines(words) else {
+        eprintln!("use: model --generate SEED LINES");
+        return ExitCode::FAILURE;
+    };
+    match io::stdout().write_all(&model::generate::tape(seed, lines)) {
+        Ok(()) => ExitCode::SUCCESS,
+        Err(error) => report("standard output", error),
+    }
+}
+
+fn main() -> ExitCode {
+    let words: Vec<OsString> = std::env::args_os().skip(1).collect();
+    if words.first().is_some_and(|word| word == "--generate") {
+        return generate(&words[1..]);
+    }
+    let mut output = io::stdout().lock();
+    if words.is_empty() {
+        return match run(io::stdin().lock(), &mut output) {
+            Ok(()) => ExitCode::SUCCESS,
+            Err(error) => report("standard input", error),
+        };
+    }
+    let mut status = ExitCode::SUCCESS;
     for name in words {
-        if let Err(error) = File::open(name).and_then(|file| run(file, &mut output)) {
-            report(name, error);
+        if let Err(error) = File::open(&name).and_then(|file| run(file, &mut output)) {
+            status = report(&name.to_string_lossy(), error);
         }
     }
     status
