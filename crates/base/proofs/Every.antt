@@ -1,0 +1,56 @@
+-- A test that holds at each number below n, computed once, and the rule at each such number; and how a loop builds it.
+-- Assumes nothing.
+use mathlib.Core.Path.{_≡_, refl, sym, ap, subst, _∙_}
+use mathlib.Core.Bool.{Bool, true, false, _&&_, and-false}
+use mathlib.Core.Logic.{⊎-elim}
+use Prim.Native.Nat.{ℕ, zero, suc, _+_, _<_, _≤_}
+use native.Mathlib.Nat.{le-of-suc-le-suc, not-suc-le-zero, eq-or-lt-of-le}
+use native.Mathlib.Numerals.{add-one}
+use native.Mathlib.Omega.{arith}
+use borrow.Author.Tests.{eqb-true, ltb-true}
+use lib.Dec.{T, eqb, eqb→eq, ltb, ltb→lt}
+use Rattle.base.specs.Words.{every}
+use Rattle.base.proofs.Tests.{both-left, both-right}
+
+-- the rule at a number below the bound
+pub every-at : (f : ℕ → Bool) (n : ℕ) → every f n ≡ true → (k : ℕ) → k < n → f k ≡ true
+unfolding every
+every-at f zero t k h = absurd (not-suc-le-zero h)
+every-at f (suc n) t k h =
+    ⊎-elim (λ e. subst (λ (m : ℕ). f m ≡ true) (sym e) (both-right (every f n) (f n) t))
+    (λ l. every-at f n (both-left (every f n) (f n) t) k l)
+    (eq-or-lt-of-le (le-of-suc-le-suc h))
+
+-- a number at which the test fails
+pub every-false : (f : ℕ → Bool) (n k : ℕ) → k < n → f k ≡ false → every f n ≡ false
+unfolding every
+every-false f zero k h e = absurd (not-suc-le-zero h)
+every-false f (suc n) k h e =
+    ⊎-elim (λ q. ap (λ (m : ℕ). every f n && f m) (sym q) ∙ ap (λ (b : Bool). every f n && b) e ∙ and-false (every f n))
+    (λ l. ap (λ (b : Bool). b && f n) (every-false f n k l e))
+    (eq-or-lt-of-le (le-of-suc-le-suc h))
+
+-- how a loop that scans upwards builds it
+pub every-none : (f : ℕ → Bool) → every f 0 ≡ true
+unfolding every
+every-none f = refl
+
+pub every-more : (f : ℕ → Bool) (n : ℕ) → every f n ≡ true → f n ≡ true → every f (n + 1) ≡ true
+unfolding every
+every-more f n p q = rw add-one (simp (p, q))
+
+-- what holds at each number below n is every
+pub every-all : (f : ℕ → Bool) (n : ℕ) → ((k : ℕ) → k < n → f k ≡ true) → every f n ≡ true
+unfolding every
+every-all f zero h = refl
+every-all f (suc n) h =
+    let p : every f n ≡ true = every-all f n (λ k l. h k (omega arith)) in
+    simp (p, h n (omega arith))
+
+-- two functions to numbers agree below n where one computed test says so
+pub same-below : (f g : ℕ → ℕ) (n : ℕ) → every (λ (k : ℕ). eqb (f k) (g k)) n ≡ true → (k : ℕ) → k < n → f k ≡ g k
+same-below f g n t k h = eqb-true (f k) (g k) (every-at (λ (j : ℕ). eqb (f j) (g j)) n t k h)
+
+-- a bound that one computed test shows at each number below n
+pub bound-below : (f : ℕ → ℕ) (m n : ℕ) → every (λ (k : ℕ). ltb (f k) m) n ≡ true → (k : ℕ) → k < n → f k < m
+bound-below f m n t k h = ltb-true (f k) m (every-at (λ (j : ℕ). ltb (f j) m) n t k h)

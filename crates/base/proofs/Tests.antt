@@ -1,0 +1,76 @@
+-- Laws of tests and choices: what a test that held or failed says, and what holds of both answers of a choice.
+-- Assumes nothing.
+use mathlib.Core.Path.{_≡_, refl, ap}
+use mathlib.Core.Bool.{Bool, true, false, not, _&&_, _||_, Bool·beq, false≢true}
+use Prim.Native.Nat.{ℕ, _<_}
+use native.Mathlib.Omega.{arith}
+use lib.Dec.{T, eqb, eqb→eq}
+use Rattle.base.specs.Words.{pick}
+
+-- by the two cases of a test
+pub by-cases : {P : Type 0} (b : Bool) → (b ≡ true → P) → (b ≡ false → P) → P
+by-cases true f g = f refl
+by-cases false f g = g refl
+
+-- the answer of a test that held, and of one that failed
+pub yes : {A : Type 0} {b : Bool} (x y : A) → b ≡ true → x ≡ pick b x y
+yes x y e = rw e
+
+pub no : {A : Type 0} {b : Bool} (x y : A) → b ≡ false → y ≡ pick b x y
+no x y e = rw e
+
+-- what holds of both answers of a choice holds of its answer
+pub pick-case : {A : Type 0} (P : A → Type 0) (t : Bool) {a b : A} → P a → P b → P (pick t a b)
+pick-case P true p q = p
+pick-case P false p q = q
+
+-- the same where each answer may use its test
+pub pick-when : {A : Type 0} (P : A → Type 0) (t : Bool) {a b : A} → (t ≡ true → P a) → (t ≡ false → P b) → P (pick t a b)
+pick-when P true p q = p refl
+pick-when P false p q = q refl
+
+-- a choice between equals
+pub pick-same : {A : Type 0} (t : Bool) (a : A) → pick t a a ≡ a
+pick-same true a = refl
+pick-same false a = refl
+
+-- a function of a choice is the choice of its values
+pub pick-map : {A B : Type 0} (f : A → B) (t : Bool) (a b : A) → f (pick t a b) ≡ pick t (f a) (f b)
+pick-map f true a b = refl
+pick-map f false a b = refl
+
+-- a row of a chain of refusals that did not refuse
+pub row : (t : Bool) (k x : ℕ) → 0 < k → pick t k x ≡ 0 → (t ≡ false) × (x ≡ 0)
+row true k x h e = absurd (omega arith)
+row false k x h e = (refl, e)
+
+-- the parts of a conjunction that holds
+pub both-left : (a b : Bool) → (a && b) ≡ true → a ≡ true
+both-left true b e = refl
+both-left false b e = e
+
+pub both-right : (a b : Bool) → (a && b) ≡ true → b ≡ true
+both-right true b e = e
+both-right false b e = absurd (false≢true e)
+
+pub both-true : {a b : Bool} → a ≡ true → b ≡ true → (a && b) ≡ true
+both-true p q = rw (p, q)
+
+pub true-false : {b : Bool} → b ≡ true → b ≡ false → ⊥
+true-false p q = let z : _≡_ {A = ℕ} 0 1 = cc in omega arith
+
+-- T and its equation
+pub T-true : (b : Bool) → T b → b ≡ true
+T-true true t = refl
+T-true false t = absurd t
+
+pub true-T : (b : Bool) → b ≡ true → T b
+true-T true e = tt
+true-T false e = absurd (true-false e refl)
+
+-- two tests that agree
+pub same→eq : (a b : Bool) → T (Bool·beq a b) → a ≡ b
+same→eq true true t = refl
+same→eq true false t = absurd t
+same→eq false true t = absurd t
+same→eq false false t = refl

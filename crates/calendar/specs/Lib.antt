@@ -1,0 +1,5 @@
+pub mod Field
+pub mod Clock
+pub mod Hours
+pub mod Date
+pub mod Time
