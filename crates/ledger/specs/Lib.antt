@@ -1,0 +1,5 @@
+pub mod State
+pub mod Frames
+pub mod Bytes
+pub mod Steps
+pub mod Runs
