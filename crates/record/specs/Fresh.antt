@@ -1,0 +1,37 @@
+-- A fresh chip (01's term). Document 01, "Acts and refusal numbers": power on, not selected, SRAM and registers 0 but day,
+-- date and month 01h; STATUS 0, locked, all counts 0. Both memories are filled with FFh; they are no part of the record.
+-- Assumes nothing.
+use Prim.Native.Nat.{ℕ}
+use mathlib.Core.Bool.{true, false}
+use mathlib.Core.List.{List}
+use lib.ListN.{set, replicate}
+use Rattle.record.specs.declared.Device.{Device}
+use Rattle.record.specs.declared.Counters.{Counters}
+use Rattle.record.specs.declared.Guard.{Guard}
+use Rattle.record.specs.declared.Frame.{Frame}
+use Rattle.record.specs.declared.Load.{Load}
+use Rattle.record.specs.declared.Cycle.{Cycle}
+use Rattle.record.specs.declared.Protection.the-variants.{Nothing}
+use Rattle.record.specs.declared.Lock.the-variants.{Closed}
+use Rattle.record.specs.declared.Stage.the-variants.{Idle}
+use Rattle.record.specs.declared.Target.the-variants.{Eeprom}
+use Rattle.record.specs.Registers.{dayAt, dateAt, monthAt}
+
+abbrev pub freshRegs : List ℕ
+freshRegs = set (set (set (replicate 32 0) dayAt 1) dateAt 1) monthAt 1
+
+abbrev pub freshSram : List ℕ
+freshSram = replicate 64 0
+
+unfoldable pub fresh : Device
+fresh =
+    record {
+      regs = freshRegs;
+      sram = freshSram;
+      counters = record { divider = 0; startup = 0; watchdog = 0; delay = 0; pulse = 0 };
+      power = true;
+      guard = record { wel = false; protection = Nothing; lock = Closed };
+      frame = record { stage = Idle };
+      load = record { offsets = 0; bytes = replicate 8 0; next = 0 };
+      cycle = record { target = Eeprom (record { 0 = 0 }); left = 0 };
+    }
