@@ -287,9 +287,9 @@ impl Writer {
     }
 
     fn status_write(&mut self) {
-        let value = match self.random.below(3) {
-            0 => 0,
-            1 => 4 * self.random.below(4) as u8,
+        let value = match self.random.below(5) {
+            0..=2 => 0, // most of the time EEPROM writes are free
+            3 => 4 * self.random.below(4) as u8,
             _ => self.random.byte(),
         };
         self.enable();

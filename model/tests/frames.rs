@@ -1,0 +1,589 @@
+//! 01 "Frames", with 000's section 3 and 002's section 6.1.
+
+mod common;
+use common::*;
+use model::chip::{Bytes, Frame, Lock, Protection};
+
+const ALL_CODES: [u8; 13] =
+    [0x03, 0x02, 0x04, 0x06, 0x05, 0x01, 0x13, 0x12, 0x14, 0x32, 0x33, 0x44, 0x54];
+
+#[test]
+fn which_bytes_get_a_reply() {
+    // "Instruction and address bytes get no reply. Reads then answer a byte per byte. SRREAD
+    // answers STATUS from its second byte". "Another code: ignored, no replies."
+    for code in 0..=255 {
+        let mut rig = Rig::new(W2K);
+        let driven: Vec<bool> =
+            rig.frame(&[code, 0, 0, 0, 0]).iter().map(Option::is_some).collect();
+        let expected = match code {
+            0x05 => [false, true, true, true, true],
+            0x03 | 0x13 | 0x33 => [false, false, true, true, true],
+            _ => [false; 5],
+        };
+        assert_eq!(driven, expected, "code {code:02X}h");
+    }
+}
+
+#[test]
+fn unknown_codes_change_nothing() {
+    for code in (0..=255).filter(|code| !ALL_CODES.contains(code)) {
+        let mut rig = Rig::new(W2K);
+        rig.write(0x20, &[1, 2, 3]);
+        rig.enable();
+        let before = rig.clone();
+        for bytes in 1..=4 {
+            rig.frame(&[code, 0x55, 0xAA, 0x34][..bytes]);
+        }
+        assert_eq!(rig, before, "code {code:02X}h");
+    }
+}
+
+#[test]
+fn status_bits() {
+    // "bit 0 WIP, 1 WEL, 2 BP0, 3 BP1, the rest 0"
+    let mut rig = Rig::new(W2K);
+    assert_eq!(rig.status(), 0b0000);
+    rig.enable();
+    assert_eq!(rig.status(), 0b0010);
+    // "SRWRITE takes bits 2 and 3 only."
+    rig.frame(&[0x01, 0b1111_0111]);
+    assert_eq!(rig.status(), 0b0011);
+    rig.wait(164);
+    assert_eq!(rig.status(), 0b0100);
+    rig.enable();
+    rig.frame(&[0x01, 0b0000_1000]);
+    rig.wait(164);
+    assert_eq!(rig.status(), 0b1000);
+    rig.enable();
+    rig.frame(&[0x01, 0b0000_1100]);
+    rig.wait(164);
+    assert_eq!(rig.status(), 0b1100);
+}
+
+#[test]
+fn status_of_the_moment() {
+    let mut rig = Rig::new(W2K);
+    rig.eeprom_write(0, &[0]);
+    rig.select();
+    rig.byte(0x05);
+    assert_eq!(rig.byte(0), Some(0b0011));
+    rig.wait(163);
+    assert_eq!(rig.byte(0), Some(0b0011));
+    rig.wait(1);
+    assert_eq!(rig.byte(0), Some(0b0000));
+}
+
+#[test]
+fn eeprom_pointer_rolls() {
+    // "EEPROM pointer rolls from the top (7Fh or FFh) to 00h"
+    let mut rig = Rig::new(W2K);
+    (rig.eeprom[0xFF], rig.eeprom[0x00], rig.eeprom[0x7F]) = (1, 2, 3);
+    assert_eq!(rig.frame(&[0x03, 0xFF, 0, 0])[2..], [Some(1), Some(2)]);
+    assert_eq!(rig.frame(&[0x03, 0x7F, 0, 0])[2..], [Some(3), Some(0xFF)]);
+    let mut rig = Rig::new(W1K);
+    (rig.eeprom[0x7F], rig.eeprom[0x00], rig.eeprom[0x01]) = (1, 2, 3);
+    assert_eq!(rig.frame(&[0x03, 0x7F, 0, 0])[2..], [Some(1), Some(2)]);
+    // "a 1 Kbit part drops address bit 7"
+    assert_eq!(rig.frame(&[0x03, 0xFF, 0, 0])[2..], [Some(1), Some(2)]);
+    assert_eq!(rig.frame(&[0x03, 0x81, 0])[2..], [Some(3)]);
+    rig.eeprom_write(0x90, &[7]);
+    rig.wait(164);
+    assert_eq!(rig.eeprom[0x10], 7);
+}
+
+#[test]
+fn id_pointer_rolls() {
+    // "ID address is taken modulo 16 and rolls 0Fh to 00h."
+    let mut rig = Rig::new(W2K);
+    (rig.id[15], rig.id[0], rig.id[3]) = (1, 2, 3);
+    assert_eq!(rig.frame(&[0x33, 0x0F, 0, 0])[2..], [Some(1), Some(2)]);
+    assert_eq!(rig.frame(&[0x33, 0xF3, 0])[2..], [Some(3)]);
+}
+
+#[test]
+fn from_60h_up() {
+    // "From 60h up READ answers 0, WRITE is dropped, the pointer stays (bench)."
+    for address in 0x60..=0xFF {
+        let mut rig = Rig::new(W2K);
+        let before = rig.device.clone();
+        rig.write(address, &[0xFF; 200]);
+        assert_eq!(
+            (rig.device.registers, rig.device.sram, rig.device.clock_pointer),
+            (before.registers, before.sram, address)
+        );
+        rig.write(0x00, &[0x77]);
+        rig.write(0x20, &[0x77]);
+        assert_eq!(rig.frame(&[0x13, address, 0, 0, 0])[2..], [Some(0), Some(0), Some(0)]);
+        assert_eq!(rig.device.clock_pointer, address);
+    }
+}
+
+#[test]
+fn writable_masks() {
+    // "under the mask of writable bits, 00h to 1Fh: FF FF 7F FF 1F 3F 1F FF, FF FF FF FF 7F 7F 3F
+    // FF, 3F 1F FF 7F 7F 3F FF 3F, then eight 00"
+    let masks = [
+        0xFF, 0xFF, 0x7F, 0xFF, 0x1F, 0x3F, 0x1F, 0xFF, 0xFF, 0xFF, 0xFF, 0xFF, 0x7F, 0x7F, 0x3F,
+        0xFF, 0x3F, 0x1F, 0xFF, 0x7F, 0x7F, 0x3F, 0xFF, 0x3F, 0, 0, 0, 0, 0, 0, 0, 0,
+    ];
+    let mut rig = Rig::new(W2K);
+    rig.write(0x00, &[0xFF; 32]);
+    assert_eq!(rig.device.registers, masks);
+    // As read: bit 6 of 0Eh and 15h copies bit 6 of 03h, which is now set.
+    let read: Vec<u8> = rig.frame(&[&[0x13, 0], &[0; 32][..]].concat())[2..]
+        .iter()
+        .map(|reply| reply.unwrap())
+        .collect();
+    let mut shown = masks;
+    (shown[0x0E], shown[0x15]) = (0x7F, 0x7F);
+    assert_eq!(read, shown);
+    rig.write(0x00, &[0x00; 32]);
+    assert_eq!(rig.device.registers, [0; 32]);
+}
+
+#[test]
+fn sram_keeps_every_bit() {
+    let mut rig = Rig::new(W2K);
+    let data: Vec<u8> = (0..64u8).map(|i| i.wrapping_mul(5) ^ 0xA7).collect();
+    rig.write(0x20, &data);
+    assert_eq!(rig.device.sram.to_vec(), data);
+    for (address, byte) in (0x20..).zip(data) {
+        assert_eq!(rig.read(address), byte);
+    }
+}
+
+#[test]
+fn bits_made_when_read() {
+    let mut rig = Rig::new(B2K);
+    // "Bit 6 of 0Eh and 15h reads as bit 6 of 03h"
+    rig.write(0x0E, &[0x7F]);
+    rig.write(0x15, &[0x40]);
+    assert_eq!((rig.read(0x0E), rig.read(0x15)), (0x3F, 0x00));
+    rig.write(0x03, &[0x52]);
+    assert_eq!((rig.read(0x0E), rig.read(0x15)), (0x7F, 0x40));
+    assert_eq!((rig.device.registers[0x0E], rig.device.registers[0x15]), (0x3F, 0x00));
+    // "bit 5 of 04h is OSCON, set while the start-up count is 32"
+    rig.write(0x04, &[0x3A]);
+    rig.wait(31);
+    assert_eq!(rig.read(0x04), 0x1A);
+    rig.wait(1);
+    assert_eq!((rig.read(0x04), rig.device.registers[0x04]), (0x3A, 0x1A));
+    // "bit 5 of 06h is the leap bit": "valid year divisible by 4"
+    for (year, leap) in [(0x00, 0x20), (0x01, 0), (0x04, 0x20), (0x96, 0x20), (0x0C, 0), (0xA0, 0)]
+    {
+        rig.write(0x06, &[0x32, year]);
+        assert_eq!((rig.read(0x06), rig.device.registers[0x06]), (0x12 | leap, 0x12));
+    }
+}
+
+#[test]
+fn enable_and_disable_act_after_exactly_8_bits() {
+    // "EEWREN and EEWRDI act at an end after exactly 8 bits."
+    for leftover in 1..=7 {
+        let mut rig = Rig::new(W2K);
+        rig.frame_with(&[0x06], leftover);
+        assert!(!rig.device.wel);
+        rig.enable();
+        rig.frame_with(&[0x04], leftover);
+        assert!(rig.device.wel);
+    }
+    let mut rig = Rig::new(W2K);
+    rig.frame(&[0x06, 0x00]);
+    assert!(!rig.device.wel);
+    rig.frame(&[0x06]);
+    assert!(rig.device.wel);
+    rig.frame(&[0x04, 0x04]);
+    assert!(rig.device.wel);
+    rig.frame(&[0x04]);
+    assert!(!rig.device.wel);
+}
+
+#[test]
+fn clears_act_after_one_or_two_whole_bytes() {
+    // "CLRWDT and CLRRAM (20h to 5Fh become 0) act at an end after one or two whole bytes, no
+    // leftover (bench)."
+    for (bytes, leftover, acts) in
+        [(1, 0, true), (2, 0, true), (3, 0, false), (4, 0, false), (1, 1, false), (2, 7, false)]
+    {
+        let mut rig = Rig::new(B2K);
+        rig.write(0x20, &[0x5A; 64]);
+        rig.device.start_up = 32;
+        rig.write(0x0A, &[0x81]);
+        rig.wait(100);
+        assert_eq!(rig.device.watchdog, 100);
+        rig.frame_with(&[0x44, 1, 2, 3][..bytes], leftover);
+        assert_eq!(rig.device.watchdog, if acts { 0 } else { 100 });
+        rig.frame_with(&[0x54, 1, 2, 3][..bytes], leftover);
+        assert_eq!(rig.device.sram, if acts { [0; 64] } else { [0x5A; 64] });
+        assert_eq!(rig.read(0x0A), 0x81);
+    }
+}
+
+#[test]
+fn page_write() {
+    // "pages are 8 bytes, x000 to x111 [..] Later bytes roll inside the page and replace earlier
+    // ones."
+    let mut rig = Rig::new(W2K);
+    rig.eeprom_write(0x2D, &[1, 2, 3, 4, 5, 6, 7, 8, 9, 10]);
+    rig.wait(164);
+    assert_eq!(rig.eeprom[0x28..0x30], [4, 5, 6, 7, 8, 9, 10, 3]);
+    assert!(rig.eeprom[..0x28].iter().chain(&rig.eeprom[0x30..]).all(|&b| b == 0xFF));
+    // Only loaded offsets change.
+    rig.eeprom_write(0x2A, &[0x77]);
+    rig.wait(164);
+    assert_eq!(rig.eeprom[0x28..0x30], [4, 5, 0x77, 7, 8, 9, 10, 3]);
+}
+
+#[test]
+fn a_write_is_carried_when() {
+    let base = [0x02, 0x10, 0x01];
+    // "WEL is set"
+    let mut rig = Rig::new(W2K);
+    rig.frame(&base);
+    assert_eq!(rig.device.countdown, 0);
+    // "The cycle lasts 164 ticks"
+    rig.enable();
+    rig.frame(&base);
+    assert_eq!((rig.device.countdown, rig.device.wel), (164, true));
+    // "at the 164th the bytes change and WEL clears"
+    rig.wait(163);
+    assert_eq!((rig.eeprom[0x10], rig.device.wel), (0xFF, true));
+    assert_eq!(rig.wait(1), 1);
+    assert_eq!((rig.eeprom[0x10], rig.device.wel), (0x01, false));
+    // "no bit is left over"
+    for leftover in 1..=7 {
+        rig.enable();
+        rig.frame_with(&base, leftover);
+        assert_eq!((rig.device.countdown, rig.device.wel), (0, false));
+    }
+}
+
+#[test]
+fn writes_without_data_keep_wel() {
+    // "at least one data byte came": with none no cycle starts and WEL stays.
+    let mut rig = Rig::new(W2K);
+    rig.unlock();
+    rig.enable();
+    for frame in [&[0x02][..], &[0x02, 0x10], &[0x32], &[0x32, 0x01], &[0x01]] {
+        rig.frame(frame);
+        assert_eq!((rig.device.countdown, rig.device.wel), (0, true), "{frame:02X?}");
+        rig.frame_with(frame, 5);
+        assert_eq!((rig.device.countdown, rig.device.wel), (0, true), "{frame:02X?}");
+    }
+}
+
+#[test]
+fn status_write_takes_exactly_one_byte() {
+    // "(SRWRITE: exactly one)"
+    let mut rig = Rig::new(W2K);
+    rig.enable();
+    rig.frame(&[0x01, 0x0C, 0x0C]);
+    assert_eq!((rig.device.countdown, rig.device.wel), (0, false));
+    rig.enable();
+    rig.frame_with(&[0x01, 0x0C], 3);
+    assert_eq!((rig.device.countdown, rig.device.wel), (0, false));
+    rig.enable();
+    rig.frame(&[0x01, 0x0C]);
+    assert_eq!(rig.wait(1_000), 164);
+    assert_eq!((rig.device.protection, rig.device.wel), (Protection::All, false));
+}
+
+#[test]
+fn protection() {
+    // "BP 01 protects the upper quarter, 10 the upper half, 11 all."
+    for (part, bp, free, protected) in [
+        (W2K, 0b00, vec![0x00, 0x40, 0x80, 0xC0, 0xFF], vec![]),
+        (W2K, 0b01, vec![0x00, 0x7F, 0xBF], vec![0xC0, 0xFF]),
+        (W2K, 0b10, vec![0x00, 0x7F], vec![0x80, 0xBF, 0xC0, 0xFF]),
+        (W2K, 0b11, vec![], vec![0x00, 0x7F, 0x80, 0xFF]),
+        (W1K, 0b00, vec![0x00, 0x60, 0x7F, 0xFF], vec![]),
+        (W1K, 0b01, vec![0x00, 0x5F, 0xDF], vec![0x60, 0x7F, 0xE0, 0xFF]),
+        (W1K, 0b10, vec![0x00, 0x3F, 0xBF], vec![0x40, 0x7F, 0xC0]),
+        (W1K, 0b11, vec![], vec![0x00, 0x3F, 0x40, 0x7F]),
+    ] {
+        let mut rig = Rig::new(part);
+        rig.protect(bp);
+        for address in free {
+            assert!(rig.eeprom_write(address, &[1]), "{bp:02b} {address:02X}h");
+            assert_eq!(rig.wait(164), 164);
+        }
+        for address in protected {
+            assert!(!rig.eeprom_write(address, &[1]), "{bp:02b} {address:02X}h");
+            // "ends with at least one data byte and no cycle starts, WEL clears"
+            assert!(!rig.device.wel);
+        }
+    }
+    // Protection does not reach the ID bytes.
+    let mut rig = Rig::new(W2K);
+    rig.protect(0b11);
+    rig.unlock();
+    rig.enable();
+    rig.frame(&[0x32, 0x00, 0x01]);
+    assert_eq!(rig.device.countdown, 164);
+}
+
+#[test]
+fn wel_is_reset_by() {
+    // 000, 3.3: "Power-up", "SRWRITE instruction successfully executed", "EEWRITE instruction
+    // successfully executed", "IDWRITE instruction successfully executed", "EEWRDI instruction
+    // successfully executed".
+    let mut rig = Rig::new(W2K);
+    rig.enable();
+    rig.cut(0);
+    rig.up();
+    assert_eq!(rig.status(), 0);
+    for write in [&[0x01, 0x00][..], &[0x02, 0x00, 0x01], &[0x32, 0x00, 0x01]] {
+        rig.unlock();
+        rig.enable();
+        rig.frame(write);
+        assert_eq!(rig.status(), 0b0011);
+        rig.wait(164);
+        assert_eq!(rig.status(), 0b0000);
+    }
+    rig.enable();
+    rig.frame(&[0x04]);
+    assert_eq!(rig.status(), 0);
+}
+
+#[test]
+fn heard_under_wip() {
+    // "If set, only SRREAD, READ, WRITE, CLRWDT, CLRRAM are heard; another frame has no reply
+    // and no effect."
+    for code in 0..=255 {
+        let mut rig = Rig::new(W2K);
+        rig.eeprom_write(0, &[0]);
+        rig.select();
+        rig.byte(code);
+        let heard = matches!(code, 0x05 | 0x13 | 0x12 | 0x44 | 0x54);
+        let expected = if heard {
+            Frame::Heard { code, bytes: Bytes::One, second: 0 }
+        } else {
+            Frame::Unheard
+        };
+        assert_eq!(rig.device.frame, expected);
+    }
+    let mut rig = Rig::new(W2K);
+    rig.eeprom_write(0x10, &[0x34]);
+    let running = rig.device.clone();
+    assert_eq!(rig.frame(&[0x03, 0x00, 0, 0]), [None; 4]); // EEREAD
+    assert_eq!(rig.frame(&[0x33, 0x00, 0, 0]), [None; 4]); // IDREAD
+    rig.frame(&[0x04]); // EEWRDI
+    rig.frame(&[0x02, 0x20, 0x56]); // EEWRITE
+    rig.frame(&[0x01, 0x0C]); // SRWRITE
+    rig.frame(&[0x14, 0x55]); // UNLOCK
+    rig.frame(&[0x77]); // an unknown code
+    assert_eq!(rig.device, running);
+    rig.wait(164);
+    assert_eq!((rig.eeprom[0x10], rig.eeprom[0x20]), (0x34, 0xFF));
+}
+
+#[test]
+fn hearing_is_judged_at_the_instruction_byte() {
+    // "WIP is looked at when the instruction byte arrives."
+    let mut rig = Rig::new(W2K);
+    rig.eeprom_write(0, &[0x12]);
+    rig.select();
+    rig.byte(0x03);
+    rig.wait(164);
+    assert_eq!((rig.byte(0), rig.byte(0), rig.byte(0)), (None, None, None));
+    rig.end(0);
+    // Selected under WIP, the instruction byte after it.
+    rig.eeprom_write(1, &[0x13]);
+    rig.select();
+    rig.wait(164);
+    assert_eq!((rig.byte(0x03), rig.byte(0), rig.byte(0)), (None, None, Some(0x12)));
+}
+
+#[test]
+fn clock_and_sram_during_a_cycle() {
+    // 002, 6: "RTCC and SRAM can be accessed for reads or writes immediately after starting an
+    // EEPROM write cycle."
+    let mut rig = Rig::new(W2K);
+    rig.eeprom_write(0, &[0x12]);
+    rig.write(0x20, &[0x99]);
+    rig.write(0x02, &[0x45]);
+    assert_eq!((rig.read(0x20), rig.read(0x02)), (0x99, 0x45));
+    assert_eq!(rig.wait(1_000), 164);
+    assert_eq!(rig.eeprom[0], 0x12);
+}
+
+fn lock_after(frames: &[(&[u8], u64)]) -> Lock {
+    let mut rig = Rig::new(W2K);
+    for (bytes, leftover) in frames {
+        rig.frame_with(bytes, *leftover);
+    }
+    rig.device.lock
+}
+
+#[test]
+fn lock_opens_by_55h_then_aah() {
+    const FIRST: (&[u8], u64) = (&[0x14, 0x55], 0);
+    const SECOND: (&[u8], u64) = (&[0x14, 0xAA], 0);
+    assert_eq!(lock_after(&[]), Lock::Closed);
+    assert_eq!(lock_after(&[FIRST]), Lock::FirstStep);
+    assert_eq!(lock_after(&[FIRST, SECOND]), Lock::Open);
+    // "55h always counts as the first step, and a lock that was open is then no longer open"
+    assert_eq!(lock_after(&[FIRST, FIRST]), Lock::FirstStep);
+    assert_eq!(lock_after(&[FIRST, FIRST, SECOND]), Lock::Open);
+    assert_eq!(lock_after(&[FIRST, SECOND, FIRST]), Lock::FirstStep);
+    assert_eq!(lock_after(&[FIRST, SECOND, FIRST, SECOND]), Lock::Open);
+    // "anything else in UNLOCK closes"
+    assert_eq!(lock_after(&[SECOND]), Lock::Closed);
+    assert_eq!(lock_after(&[FIRST, SECOND, SECOND]), Lock::Closed);
+    for other in 0..=255 {
+        if other != 0x55 && other != 0xAA {
+            assert_eq!(lock_after(&[FIRST, (&[0x14, other], 0)]), Lock::Closed);
+            assert_eq!(lock_after(&[FIRST, SECOND, (&[0x14, other], 0)]), Lock::Closed);
+        }
+    }
+    // "each is two bytes, no leftover"
+    for wrong in [&[0x14][..], &[0x14, 0x55, 0x55], &[0x14, 0xAA, 0xAA], &[0x14, 0x55, 0xAA]] {
+        assert_eq!(lock_after(&[FIRST, SECOND, (wrong, 0)]), Lock::Closed);
+        assert_eq!(lock_after(&[FIRST, (wrong, 0)]), Lock::Closed);
+    }
+    assert_eq!(lock_after(&[(&[0x14, 0x55], 1)]), Lock::Closed);
+    assert_eq!(lock_after(&[FIRST, (&[0x14, 0xAA], 7)]), Lock::Closed);
+    // "Closing forgets the first step."
+    assert_eq!(lock_after(&[FIRST, (&[0x14, 0x00], 0), SECOND]), Lock::Closed);
+}
+
+#[test]
+fn which_frames_close_the_lock() {
+    // "A heard frame, an unknown code too, with another first byte than UNLOCK, EEWREN or SRREAD
+    // closes it at its end".
+    for code in 0..=255 {
+        let keeps = matches!(code, 0x06 | 0x05);
+        for (frame, leftover) in [(&[code][..], 0), (&[code], 3), (&[code, 0], 0), (&[code, 0, 0], 0)]
+        {
+            if code == 0x14 {
+                continue;
+            }
+            let mut rig = Rig::new(W2K);
+            rig.frame(&[0x14, 0x55]);
+            rig.frame_with(frame, leftover);
+            assert_eq!(rig.device.lock, if keeps { Lock::FirstStep } else { Lock::Closed });
+            let mut rig = Rig::new(W2K);
+            rig.unlock();
+            rig.select();
+            for &byte in frame {
+                rig.byte(byte);
+            }
+            assert_eq!(rig.device.lock, Lock::Open); // not before its end
+            rig.end(leftover);
+            assert_eq!(rig.device.lock, if keeps { Lock::Open } else { Lock::Closed });
+        }
+    }
+    // A frame with no whole byte closes nothing.
+    for leftover in 0..=7 {
+        let mut rig = Rig::new(W2K);
+        rig.unlock();
+        rig.frame_with(&[], leftover);
+        assert_eq!(rig.device.lock, Lock::Open);
+    }
+    // A frame that is not heard closes nothing; one of the five does.
+    let mut rig = Rig::new(W2K);
+    rig.eeprom_write(0, &[0]);
+    rig.device.lock = Lock::Open;
+    rig.frame(&[0x77, 0]);
+    rig.frame(&[0x14, 0x00]);
+    assert_eq!(rig.device.lock, Lock::Open);
+    rig.frame(&[0x13, 0]);
+    assert_eq!(rig.device.lock, Lock::Closed);
+}
+
+#[test]
+fn id_write() {
+    let mut rig = Rig::new(W1K);
+    // Locked: no cycle, and WEL clears.
+    rig.enable();
+    rig.frame(&[0x32, 0x00, 0x01]);
+    assert_eq!((rig.device.countdown, rig.device.wel), (0, false));
+    // Open: "after its own effect is judged" the frame closes the lock.
+    rig.unlock();
+    rig.enable();
+    rig.frame(&[0x32, 0x1E, 0x01, 0x02, 0x03]);
+    assert_eq!((rig.device.countdown, rig.device.lock), (164, Lock::Closed));
+    assert_eq!(rig.wait(500), 164);
+    // Page 08h to 0Fh, address 1Eh taken modulo 16.
+    assert_eq!(rig.id[8..], [3, 0xFF, 0xFF, 0xFF, 0xFF, 0xFF, 1, 2]);
+    assert!(rig.id[..8].iter().all(|&b| b == 0xFF));
+    assert!(rig.eeprom.iter().all(|&b| b == 0xFF));
+    // Closed again.
+    rig.enable();
+    rig.frame(&[0x32, 0x00, 0x01]);
+    assert_eq!(rig.device.countdown, 0);
+    // Only the first step: no.
+    rig.frame(&[0x14, 0x55]);
+    rig.enable();
+    rig.frame(&[0x32, 0x00, 0x01]);
+    assert_eq!(rig.device.countdown, 0);
+    // Without WEL: no, and the lock is used up.
+    rig.unlock();
+    rig.frame(&[0x32, 0x00, 0x01]);
+    assert_eq!((rig.device.countdown, rig.device.lock), (0, Lock::Closed));
+}
+
+#[test]
+fn register_writes_that_cause_something() {
+    // "ST cleared on W clears OSCON and the start-up count at once."
+    let mut rig = Rig::new(W2K);
+    rig.write(0x01, &[0x80]);
+    rig.wait(700);
+    assert_eq!((rig.device.start_up, rig.device.divider, rig.read(0x04)), (32, 668, 0x21));
+    rig.write(0x01, &[0x80]);
+    assert_eq!(rig.device.start_up, 32);
+    rig.write(0x01, &[0x00]);
+    // The divider stays.
+    assert_eq!((rig.device.start_up, rig.device.divider, rig.read(0x04)), (0, 668, 0x01));
+    // "On B, bit 7 clear only holds the calendar and divider."
+    let mut rig = Rig::new(B2K);
+    rig.write(0x01, &[0x80]);
+    rig.wait(700);
+    rig.write(0x01, &[0x00]);
+    assert_eq!((rig.device.start_up, rig.device.divider), (32, 668));
+    rig.wait(500);
+    assert_eq!((rig.device.start_up, rig.device.divider), (32, 668));
+}
+
+#[test]
+fn inert_bits_are_stored_and_do_nothing() {
+    // "CLKOUT, EXTOSC, trimming, event inputs (their register bits are stored and do nothing),
+    // time-stamps (18h to 1Fh read 0, writes dropped)"
+    let run = |inert: bool| {
+        let mut rig = Rig::new(W2K);
+        rig.write(0x01, &[0x80]);
+        if inert {
+            rig.write(0x08, &[0xCF]); // OUT, SQWE, EXTOSC, RS2:RS0
+            rig.write(0x09, &[0xFF]); // calibration
+            rig.write(0x0B, &[0xFF]); // event detect
+            rig.write(0x03, &[0x80]); // CALSGN
+            rig.write(0x18, &[0xFF; 8]);
+            let read = [0x08, 0x09, 0x0B, 0x03, 0x18, 0x1F].map(|address| rig.read(address));
+            assert_eq!(read, [0xCF, 0xFF, 0xFF, 0x80, 0x00, 0x00]);
+        }
+        assert_eq!(rig.wait(2_200_000), 2_200_000);
+        (rig.device.divider, rig.time()[0..3].to_vec(), rig.lines())
+    };
+    assert_eq!(run(true), run(false));
+}
+
+#[test]
+fn figures_of_the_sheet() {
+    // 000, figures 3-2 and 3-3: byte and page EEWRITE; 3-1: EEREAD; 3-4 and 3-5: EEWREN, EEWRDI.
+    let mut rig = Rig::new(W2K);
+    assert_eq!(rig.frame(&[0b0000_0110]), [None]);
+    assert_eq!(rig.frame(&[0b0000_0010, 0x40, 0x11]), [None; 3]);
+    rig.wait(164);
+    rig.frame(&[0b0000_0110]);
+    rig.frame(&[0b0000_0010, 0x48, 1, 2, 3, 4, 5, 6, 7, 8]);
+    rig.wait(164);
+    assert_eq!(
+        rig.frame(&[0b0000_0011, 0x47, 0, 0, 0]),
+        [None, None, Some(0xFF), Some(1), Some(2)]
+    );
+    assert_eq!(rig.frame(&[0b0000_0011, 0x40, 0])[2], Some(0x11));
+    rig.frame(&[0b0000_0110]);
+    assert_eq!(rig.status(), 0b10);
+    assert_eq!(rig.frame(&[0b0000_0100]), [None]);
+    assert_eq!(rig.status(), 0b00);
+}

@@ -1,0 +1,336 @@
+//! 01 "Acts and refusal numbers": each number on both sides of its limit, every row of number 6,
+//! and which goes first.
+
+mod common;
+use common::*;
+use model::chip::{Bytes, Device, Frame, Lock, Protection, Target};
+use model::Act;
+
+const ACTS: [Act; 6] = [Act::Select, Act::Byte, Act::End, Act::Wait, Act::Cut, Act::Up];
+
+fn refused_by_all(rig: &mut Rig, number: u64) {
+    for act in ACTS {
+        rig.refused(act, 0, number);
+    }
+}
+
+fn heard(code: u8) -> Frame {
+    Frame::Heard { code, bytes: Bytes::One, second: 0 }
+}
+
+#[test]
+fn number_1_select_while_selected() {
+    let mut rig = Rig::new(W2K);
+    rig.done(Act::Select, 0);
+    rig.refused(Act::Select, 0, 1);
+    rig.byte(0x05);
+    rig.refused(Act::Select, 0, 1);
+    rig.end(0);
+    rig.done(Act::Select, 0);
+}
+
+#[test]
+fn number_2_byte_or_end_while_not_selected() {
+    let mut rig = Rig::new(W2K);
+    rig.refused(Act::Byte, 6, 2);
+    rig.refused(Act::End, 0, 2);
+    rig.select();
+    rig.done(Act::Byte, 6);
+    rig.done(Act::End, 0);
+    rig.refused(Act::End, 0, 2);
+    // Waits and cuts need no frame.
+    rig.done(Act::Wait, 1);
+    rig.done(Act::Cut, 0);
+}
+
+#[test]
+fn number_3_by_the_argument() {
+    let mut rig = Rig::new(W2K);
+    rig.refused(Act::Select, 1, 3);
+    rig.refused(Act::Select, u64::MAX, 3);
+    rig.select();
+    rig.done(Act::Byte, 255);
+    rig.refused(Act::Byte, 256, 3);
+    rig.refused(Act::Byte, 256 + 6, 3);
+    // "leftover above 7"
+    rig.refused(Act::End, 8, 3);
+    rig.done(Act::End, 7);
+    // "wait above 16,777,216"
+    assert_eq!(rig.done(Act::Wait, 16_777_216).count, 16_777_216);
+    rig.refused(Act::Wait, 16_777_217, 3);
+    rig.refused(Act::Wait, u64::MAX, 3);
+    // "byte or mask above 255"
+    rig.refused(Act::Cut, 256, 3);
+    rig.done(Act::Cut, 255);
+    // "select or up with a number other than 0"
+    rig.refused(Act::Up, 1, 3);
+    rig.done(Act::Up, 0);
+}
+
+#[test]
+fn number_3_by_the_part() {
+    // "part not 1 to 4"
+    for part in [0, 5, 6, 255, 256, u64::MAX] {
+        let mut rig = Rig::new(W2K);
+        rig.part = part;
+        refused_by_all(&mut rig, 3);
+    }
+    for part in [W1K, W2K, B1K, B2K] {
+        Rig::new(part).done(Act::Select, 0);
+    }
+}
+
+#[test]
+fn number_4_by_a_memorys_length() {
+    // "EEPROM (128 or 256 bytes) and ID (16 bytes)"
+    for (part, good, bad) in [
+        (W1K, 128, [0, 127, 129, 256]),
+        (W2K, 256, [0, 128, 255, 257]),
+        (B1K, 128, [0, 127, 129, 256]),
+        (B2K, 256, [0, 128, 255, 257]),
+    ] {
+        for length in bad {
+            let mut rig = Rig::new(part);
+            rig.eeprom.resize(length, 0xFF);
+            refused_by_all(&mut rig, 4);
+        }
+        for length in [0, 15, 17] {
+            let mut rig = Rig::new(part);
+            rig.id.resize(length, 0xFF);
+            refused_by_all(&mut rig, 4);
+        }
+        let mut rig = Rig::new(part);
+        rig.eeprom.resize(good, 0xFF);
+        rig.done(Act::Select, 0);
+    }
+}
+
+#[test]
+fn number_5_by_the_power() {
+    let mut rig = Rig::new(W2K);
+    rig.refused(Act::Up, 0, 5);
+    rig.done(Act::Cut, 0);
+    rig.refused(Act::Select, 0, 5);
+    rig.refused(Act::Byte, 0, 5);
+    rig.refused(Act::End, 0, 5);
+    rig.refused(Act::Cut, 0, 5);
+    rig.done(Act::Wait, 10);
+    rig.done(Act::Up, 0);
+    rig.refused(Act::Up, 0, 5);
+    rig.done(Act::Select, 0);
+}
+
+/// The record is in range: a wait of no tick is done, and stays what it was.
+fn in_range(part: u64, change: impl Fn(&mut Device)) {
+    let mut rig = Rig::new(part);
+    change(&mut rig.device);
+    let before = rig.clone();
+    rig.done(Act::Wait, 0);
+    assert_eq!(rig, before);
+}
+
+/// The record is out of range: number 6 for every act.
+fn out_of_range(part: u64, change: impl Fn(&mut Device)) {
+    let mut rig = Rig::new(part);
+    change(&mut rig.device);
+    refused_by_all(&mut rig, 6);
+}
+
+#[test]
+fn number_6_counts() {
+    for part in [W1K, W2K, B1K, B2K] {
+        // "divider above 32,767"
+        in_range(part, |d| d.divider = 32_767);
+        out_of_range(part, |d| d.divider = 32_768);
+        out_of_range(part, |d| d.divider = u64::MAX);
+        // "start-up count above 32"
+        in_range(part, |d| (d.start_up, d.registers[1]) = (32, 0x80));
+        out_of_range(part, |d| (d.start_up, d.registers[1]) = (33, 0x80));
+        // "write countdown above 164"
+        in_range(part, |d| d.countdown = 164);
+        out_of_range(part, |d| d.countdown = 165);
+        // "pulse above 4,096"
+        in_range(part, |d| d.pulse = 4_096);
+        out_of_range(part, |d| d.pulse = 4_097);
+        // "delay above 2,097,152"
+        in_range(part, |d| d.delay = 2_097_152);
+        out_of_range(part, |d| d.delay = 2_097_153);
+        // "page offset above 7"
+        in_range(part, |d| d.offset = 7);
+        out_of_range(part, |d| d.offset = 8);
+        // "ID pointer above 15"
+        in_range(part, |d| d.id_pointer = 15);
+        out_of_range(part, |d| d.id_pointer = 16);
+    }
+}
+
+#[test]
+fn number_6_watchdog_count() {
+    // "watchdog count not below its period"; "32, 512, 2,048, 4,096, 32,768, 524,288, 1,048,576,
+    // 2,097,152 ticks; bit 3 ignored"
+    let periods = [32, 512, 2_048, 4_096, 32_768, 524_288, 1_048_576, 2_097_152];
+    for (bits, period) in (0..).zip(periods) {
+        for others in [0x00, 0x08, 0xF0] {
+            in_range(W1K, |d| (d.registers[0x0A], d.watchdog) = (others | bits, period - 1));
+            out_of_range(W1K, |d| (d.registers[0x0A], d.watchdog) = (others | bits, period));
+        }
+    }
+}
+
+#[test]
+fn number_6_eeprom_pointer() {
+    // "EEPROM pointer not below the memory's length"
+    for (part, length) in [(W1K, 128), (B1K, 128), (W2K, 256), (B2K, 256)] {
+        in_range(part, |d| d.eeprom_pointer = length - 1);
+        out_of_range(part, |d| d.eeprom_pointer = length);
+        // In use or not.
+        out_of_range(part, |d| (d.eeprom_pointer, d.frame) = (length, heard(0x03)));
+    }
+}
+
+#[test]
+fn number_6_register_bits() {
+    // "a stored register bit set outside its mask"; the masks are 01's.
+    let masks = [
+        0xFF, 0xFF, 0x7F, 0xFF, 0x1F, 0x3F, 0x1F, 0xFF, 0xFF, 0xFF, 0xFF, 0xFF, 0x7F, 0x7F, 0x3F,
+        0xFF, 0x3F, 0x1F, 0xFF, 0x7F, 0x7F, 0x3F, 0xFF, 0x3F, 0, 0, 0, 0, 0, 0, 0, 0,
+    ];
+    for (register, mask) in masks.into_iter().enumerate() {
+        in_range(B2K, |d| d.registers[register] = mask);
+        for bit in 0..8 {
+            if mask >> bit & 1 == 0 {
+                out_of_range(B2K, |d| d.registers[register] |= 1 << bit);
+            }
+        }
+    }
+}
+
+#[test]
+fn number_6_start_up_with_st_clear() {
+    // "start-up count above 0 on a W part with ST clear"
+    for part in [W1K, W2K] {
+        in_range(part, |d| d.start_up = 0);
+        out_of_range(part, |d| d.start_up = 1);
+        out_of_range(part, |d| d.start_up = 32);
+        in_range(part, |d| (d.start_up, d.registers[1]) = (1, 0x80));
+    }
+    for part in [B1K, B2K] {
+        in_range(part, |d| d.start_up = 32);
+    }
+}
+
+#[test]
+fn number_6_power_off() {
+    // "power off with a frame open or a cycle running"
+    for part in [W1K, B2K] {
+        in_range(part, |d| d.power = false);
+        for frame in [Frame::Empty, Frame::Unheard, heard(0x05)] {
+            in_range(part, |d| d.frame = frame);
+            out_of_range(part, |d| (d.power, d.frame) = (false, frame));
+        }
+        in_range(part, |d| d.countdown = 1);
+        out_of_range(part, |d| (d.power, d.countdown) = (false, 1));
+    }
+}
+
+#[test]
+fn number_6_frame_under_a_cycle() {
+    // "a cycle running with a heard frame open whose code is not one of the five that are heard
+    // under WIP": SRREAD 05, READ 13, WRITE 12, CLRWDT 44, CLRRAM 54.
+    for code in 0..=255 {
+        in_range(W2K, |d| d.frame = heard(code));
+        match code {
+            0x05 | 0x13 | 0x12 | 0x44 | 0x54 => {
+                in_range(W2K, |d| (d.frame, d.countdown) = (heard(code), 1));
+            }
+            _ => out_of_range(W2K, |d| (d.frame, d.countdown) = (heard(code), 1)),
+        }
+    }
+    for frame in [Frame::Idle, Frame::Empty, Frame::Unheard] {
+        in_range(W2K, |d| (d.frame, d.countdown) = (frame, 164));
+    }
+}
+
+#[test]
+fn what_the_list_does_not_name_is_in_range() {
+    in_range(W2K, |d| (d.power, d.wel) = (false, true));
+    in_range(W2K, |d| (d.power, d.lock) = (false, Lock::Open));
+    in_range(W2K, |d| (d.power, d.pulse) = (false, 4));
+    in_range(W2K, |d| (d.power, d.registers[0x0A]) = (false, 0x80));
+    in_range(W2K, |d| (d.countdown, d.wel, d.loaded) = (7, false, [None; 8]));
+    in_range(W2K, |d| (d.countdown, d.target) = (7, Target::Status(Protection::All)));
+    in_range(W2K, |d| d.frame = Frame::Unheard);
+    in_range(W2K, |d| d.clock_pointer = 0xFF);
+}
+
+/// "Several at once: 7, 3 for the part, 4, 6, 3, 5, then 1 or 2." (7 is the tape's.)
+#[test]
+fn which_goes_first() {
+    // All of them: a bad part, memory, record, number, power, and no frame.
+    let mut rig = Rig::new(W2K);
+    rig.part = 5;
+    rig.id.pop();
+    rig.device.power = false;
+    rig.device.divider = 32_768;
+    rig.refused(Act::Byte, 256, 3);
+    rig.part = W2K;
+    rig.refused(Act::Byte, 256, 4);
+    rig.id.push(0xFF);
+    rig.refused(Act::Byte, 256, 6);
+    rig.device.divider = 32_767;
+    rig.refused(Act::Byte, 256, 3);
+    rig.refused(Act::Byte, 255, 5);
+    rig.device.power = true;
+    rig.refused(Act::Byte, 255, 2);
+    rig.device.frame = Frame::Empty;
+    rig.done(Act::Byte, 255);
+    // Number 3 before 1, and 3 before 5 for up.
+    rig.refused(Act::Select, 1, 3);
+    rig.refused(Act::Select, 0, 1);
+    rig.refused(Act::Up, 1, 3);
+    rig.refused(Act::Up, 0, 5);
+    // Number 3 for an end before 2.
+    rig.end(0);
+    rig.refused(Act::End, 8, 3);
+    rig.refused(Act::End, 7, 2);
+    // The part's length decides number 4, so a wrong part with the right memories is 3.
+    rig.part = 0;
+    rig.eeprom.pop();
+    rig.refused(Act::Wait, 0, 3);
+    // A record out of range for its memory, under a memory of another length: 4 before 6.
+    let mut rig = Rig::new(W1K);
+    rig.device.eeprom_pointer = 200;
+    rig.refused(Act::Wait, 0, 6);
+    rig.eeprom.resize(256, 0xFF);
+    rig.refused(Act::Wait, 0, 4);
+    // The same record is in range on a 2 Kbit part.
+    rig.part = W2K;
+    rig.done(Act::Wait, 0);
+}
+
+#[test]
+fn fresh_is_in_range() {
+    for part in [W1K, W2K, B1K, B2K] {
+        in_range(part, |_| {});
+    }
+}
+
+#[test]
+fn fresh_as_the_paper_has_it() {
+    // "Fresh: power on, not selected, SRAM and registers 0 but day, date and month 01h; both
+    // memories filled with FFh; STATUS 0, locked, all counts 0."
+    let mut rig = Rig::new(B2K);
+    let d = &rig.device;
+    assert!(d.power && d.frame == Frame::Idle && d.lock == Lock::Closed);
+    assert_eq!(d.sram, [0; 64]);
+    let mut registers = [0; 32];
+    (registers[4], registers[5], registers[6]) = (1, 1, 1);
+    assert_eq!(d.registers, registers);
+    assert_eq!(
+        (d.divider, d.start_up, d.countdown, d.watchdog, d.delay, d.pulse),
+        (0, 0, 0, 0, 0, 0)
+    );
+    assert_eq!(rig.status(), 0);
+    assert_eq!(rig.frame(&[0x03, 0x00, 0])[2], Some(0xFF));
+    assert_eq!(rig.frame(&[0x33, 0x00, 0])[2], Some(0xFF));
+}

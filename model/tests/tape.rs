@@ -1,0 +1,181 @@
+//! 01 "The tape": which lines are of the form, the part rule, and what is printed.
+
+use model::tape::{answers, parse, Op, Tape};
+use model::Act;
+
+fn answered(tape: &[u8]) -> Vec<String> {
+    String::from_utf8(answers(tape)).unwrap().lines().map(String::from).collect()
+}
+
+#[test]
+fn lines_of_the_form() {
+    // "Each line is `op=NAME arg=N`, N of 1 to 8 digits, no needless zero"
+    assert_eq!(parse(b"op=part arg=2"), Some((Op::Part, 2)));
+    assert_eq!(parse(b"op=select arg=0"), Some((Op::Do(Act::Select), 0)));
+    assert_eq!(parse(b"op=byte arg=255"), Some((Op::Do(Act::Byte), 255)));
+    assert_eq!(parse(b"op=end arg=7"), Some((Op::Do(Act::End), 7)));
+    assert_eq!(parse(b"op=wait arg=16777216"), Some((Op::Do(Act::Wait), 16_777_216)));
+    assert_eq!(parse(b"op=cut arg=128"), Some((Op::Do(Act::Cut), 128)));
+    assert_eq!(parse(b"op=up arg=0"), Some((Op::Do(Act::Up), 0)));
+    assert_eq!(parse(b"op=wait arg=99999999"), Some((Op::Do(Act::Wait), 99_999_999)));
+}
+
+#[test]
+fn lines_not_of_the_form() {
+    for line in [
+        &b""[..],
+        b" ",
+        b"op",
+        b"op=",
+        b"op=byte",
+        b"op=byte ",
+        b"op=byte arg",
+        b"op=byte arg=",
+        b"op=bytearg=1",
+        // "one blank stands between"
+        b"op=byte  arg=1",
+        b"op=byte\targ=1",
+        b" op=byte arg=1",
+        b"op =byte arg=1",
+        b"op= byte arg=1",
+        b"op=byte arg =1",
+        b"op=byte arg= 1",
+        // "nothing follows the digits"
+        b"op=byte arg=1 ",
+        b"op=byte arg=1\r",
+        b"op=byte arg=1x",
+        b"op=byte arg=1 op=byte arg=1",
+        // "no needless zero"
+        b"op=byte arg=00",
+        b"op=byte arg=01",
+        b"op=byte arg=00000000",
+        // "1 to 8 digits"
+        b"op=wait arg=100000000",
+        b"op=wait arg=123456789",
+        b"op=wait arg=000000001",
+        b"op=byte arg=-1",
+        b"op=byte arg=+1",
+        b"op=byte arg=0x1",
+        b"op=byte arg=1.",
+        b"op=byte arg=\xB1",
+        // "NAME is `part` or an act's name"
+        b"op=Byte arg=1",
+        b"OP=byte arg=1",
+        b"op=bytes arg=1",
+        b"op=byt arg=1",
+        b"op= arg=1",
+        b"op=read arg=1",
+        b"op=byte\0arg=1",
+        b"\xFF\xFE",
+    ] {
+        assert_eq!(parse(line), None, "{:?}", String::from_utf8_lossy(line));
+    }
+}
+
+#[test]
+fn every_line_is_answered() {
+    // A last line without a newline is a line too; an empty line is a line; no input, no answer.
+    assert_eq!(answered(b""), Vec::<String>::new());
+    assert_eq!(answered(b"\n"), ["no=7 out=z irq=1 wdo=1"]);
+    assert_eq!(answered(b"\n\n\n").len(), 3);
+    assert_eq!(answered(b"op=part arg=1").len(), 1);
+    assert_eq!(answered(b"op=part arg=1\n").len(), 1);
+    assert_eq!(answered(b"op=part arg=1\nx").len(), 2);
+    assert_eq!(answered(&[b'x'; 100_000]).len(), 1);
+    assert_eq!(answered(b"op=part arg=1\n\nop=select arg=0\n")[1..], [
+        "no=7 out=z irq=1 wdo=1",
+        "no=0 out=z irq=1 wdo=1"
+    ]);
+}
+
+#[test]
+fn the_part_comes_first_and_once() {
+    // "First comes `op=part` [..], once; else 7. One refused with 3 does not count."
+    let numbers: Vec<String> = answered(
+        b"op=select arg=0\nop=part arg=0\nop=select arg=0\nop=part arg=5\nop=part arg=99999999\n\
+          bad\nop=part arg=04\nop=part arg=4\nop=part arg=4\nop=part arg=5\nop=select arg=0\n",
+    )
+    .iter()
+    .map(|line| line[3..4].to_string())
+    .collect();
+    assert_eq!(numbers, ["7", "3", "7", "3", "3", "7", "7", "0", "7", "7", "0"]);
+}
+
+#[test]
+fn what_out_shows() {
+    let got = answered(
+        b"op=part arg=1\nop=wait arg=0\nop=wait arg=7\nop=wait arg=16777217\nop=byte arg=5\n\
+          op=select arg=0\nop=select arg=0\nop=byte arg=5\nop=byte arg=0\nop=end arg=8\nop=end arg=0\n\
+          op=cut arg=255\nop=cut arg=255\nop=up arg=0\nop=up arg=0\n",
+    );
+    assert_eq!(
+        got,
+        [
+            "no=0 out=z irq=1 wdo=1",
+            "no=0 out=0 irq=1 wdo=1",
+            "no=0 out=7 irq=1 wdo=1",
+            "no=3 out=z irq=1 wdo=1",
+            "no=2 out=z irq=1 wdo=1",
+            "no=0 out=z irq=1 wdo=1",
+            "no=1 out=z irq=1 wdo=1",
+            "no=0 out=z irq=1 wdo=1",
+            "no=0 out=0 irq=1 wdo=1",
+            "no=3 out=z irq=1 wdo=1",
+            "no=0 out=z irq=1 wdo=1",
+            "no=0 out=0 irq=1 wdo=1",
+            "no=5 out=z irq=1 wdo=1",
+            "no=0 out=z irq=1 wdo=1",
+            "no=5 out=z irq=1 wdo=1",
+        ]
+    );
+}
+
+#[test]
+fn levels_are_shown_for_refused_and_bad_lines_too() {
+    // Alarm 0 active with its flag written: IRQ low; then alarm 1 on WDO.
+    let got = answered(
+        b"op=part arg=1\nop=select arg=0\nop=byte arg=18\nop=byte arg=8\nop=byte arg=48\n\
+          op=end arg=0\nop=select arg=0\nop=byte arg=18\nop=byte arg=15\nop=byte arg=8\nbad\n\
+          op=select arg=0\nop=end arg=0\nop=select arg=0\nop=byte arg=18\nop=byte arg=22\n\
+          op=byte arg=136\n",
+    );
+    assert_eq!(
+        got[9..],
+        [
+            "no=0 out=z irq=0 wdo=1",
+            "no=7 out=z irq=0 wdo=1",
+            "no=1 out=z irq=0 wdo=1",
+            "no=0 out=z irq=0 wdo=1",
+            "no=0 out=z irq=0 wdo=1",
+            "no=0 out=z irq=0 wdo=1",
+            "no=0 out=z irq=0 wdo=1",
+            "no=0 out=z irq=0 wdo=0",
+        ]
+    );
+}
+
+#[test]
+fn chunks_answer_as_their_join() {
+    let tape = model::generate::tape(5, 300);
+    let whole = answers(&tape);
+    for size in [1, 2, 3, 7, 64, 1_000] {
+        let mut out = Vec::new();
+        let mut state = Tape::new();
+        for chunk in tape.chunks(size) {
+            state.feed(chunk, &mut out);
+        }
+        state.finish(&mut out);
+        assert_eq!(out, whole);
+    }
+}
+
+#[test]
+fn the_generator() {
+    for seed in 0..8 {
+        let tape = model::generate::tape(seed, 1_000);
+        assert_eq!(tape, model::generate::tape(seed, 1_000));
+        assert_eq!(answers(&tape).iter().filter(|&&b| b == b'\n').count(), 1_000);
+    }
+    assert!(model::generate::tape(0, 0).is_empty());
+    assert_ne!(model::generate::tape(0, 50), model::generate::tape(4, 50));
+}
