@@ -1,7 +1,7 @@
 -- A test that holds at each number below n, computed once, and the rule at each such number; and how a loop builds it.
 -- Assumes nothing.
 use mathlib.Core.Path.{_≡_, refl, sym, ap, subst, _∙_}
-use mathlib.Core.Bool.{Bool, true, false, _&&_, and-false}
+use mathlib.Core.Bool.{Bool, true, false, _&&_, and-false, true≢false}
 use mathlib.Core.Logic.{⊎-elim}
 use Prim.Native.Nat.{ℕ, zero, suc, _+_, _<_, _≤_}
 use native.Mathlib.Nat.{le-of-suc-le-suc, not-suc-le-zero, eq-or-lt-of-le}
@@ -10,7 +10,7 @@ use native.Mathlib.Omega.{arith}
 use borrow.Author.Tests.{eqb-true, ltb-true}
 use lib.Dec.{T, eqb, eqb→eq, ltb, ltb→lt}
 use Rattle.base.specs.Words.{every}
-use Rattle.base.proofs.Tests.{both-left, both-right}
+use Rattle.base.proofs.Tests.{by-cases, both-left, both-right}
 
 -- the rule at a number below the bound
 pub every-at : (f : ℕ → Bool) (n : ℕ) → every f n ≡ true → (k : ℕ) → k < n → f k ≡ true
@@ -29,6 +29,15 @@ every-false f (suc n) k h e =
     ⊎-elim (λ q. ap (λ (m : ℕ). every f n && f m) (sym q) ∙ ap (λ (b : Bool). every f n && b) e ∙ and-false (every f n))
     (λ l. ap (λ (b : Bool). b && f n) (every-false f n k l e))
     (eq-or-lt-of-le (le-of-suc-le-suc h))
+
+-- where it fails there is a number at which the test fails
+pub every-miss : (f : ℕ → Bool) (n : ℕ) → every f n ≡ false → (k : ℕ) × (k < n) × (f k ≡ false)
+unfolding every
+every-miss f zero e = absurd (true≢false e)
+every-miss f (suc n) e =
+    by-cases (every f n)
+    (λ p. (n, omega arith, rw p at e))
+    (λ p. let m = every-miss f n p in (m .0, omega (arith, m .1), m .2))
 
 -- how a loop that scans upwards builds it
 pub every-none : (f : ℕ → Bool) → every f 0 ≡ true

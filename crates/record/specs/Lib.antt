@@ -5,4 +5,5 @@ pub mod Numbers
 pub mod Fresh
 pub mod Range
 pub mod Refusal
+pub mod InRange
 pub mod Rows

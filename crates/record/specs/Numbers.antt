@@ -13,6 +13,10 @@ use Rattle.record.specs.declared.Lock.{Lock}
 use Rattle.record.specs.declared.Lock.the-variants.{Closed, First, Open}
 use Rattle.record.specs.declared.Act.{Act}
 use Rattle.record.specs.declared.Act.the-variants.{Select, Byte, End, Wait, Cut, Up}
+use Rattle.record.specs.declared.Stage.{Stage}
+use Rattle.record.specs.declared.Stage.the-variants.{Idle, Opened, Unheard, Instruction, EepromRead, EepromWrite, ClockRead, ClockWrite, IdRead, IdWrite, StatusWrite, StatusWriteMore, UnlockSecond, UnlockMore, WatchdogSecond, WatchdogMore, RamSecond, RamMore, EnableMore, DisableMore}
+use Rattle.record.specs.declared.Target.{Target}
+use Rattle.record.specs.declared.Target.the-variants.{Eeprom, Id, Status}
 use Rattle.record.specs.declared.Reply.{Reply}
 use Rattle.record.specs.declared.Reply.the-variants.{Driven, Off}
 
@@ -88,3 +92,86 @@ replyNumber Off = 256
 
 abbrev pub replyOf : ℕ → Reply
 replyOf n = pick (eqb n 256) Off (Driven n)
+
+-- a stage by its kind, in the order of their declaration, and the value that it carries, 0 where there is none
+abbrev pub stageKind : Stage → ℕ
+stageKind Idle = 0
+stageKind Opened = 1
+stageKind Unheard = 2
+stageKind (Instruction c) = 3
+stageKind (EepromRead a) = 4
+stageKind (EepromWrite a) = 5
+stageKind (ClockRead a) = 6
+stageKind (ClockWrite a) = 7
+stageKind (IdRead a) = 8
+stageKind (IdWrite a) = 9
+stageKind (StatusWrite v) = 10
+stageKind StatusWriteMore = 11
+stageKind (UnlockSecond v) = 12
+stageKind UnlockMore = 13
+stageKind WatchdogSecond = 14
+stageKind WatchdogMore = 15
+stageKind RamSecond = 16
+stageKind RamMore = 17
+stageKind EnableMore = 18
+stageKind DisableMore = 19
+
+abbrev pub stageValue : Stage → ℕ
+stageValue Idle = 0
+stageValue Opened = 0
+stageValue Unheard = 0
+stageValue (Instruction c) = codeNumber c
+stageValue (EepromRead a) = a .0
+stageValue (EepromWrite a) = a .0
+stageValue (ClockRead a) = a .0
+stageValue (ClockWrite a) = a .0
+stageValue (IdRead a) = a .0
+stageValue (IdWrite a) = a .0
+stageValue (StatusWrite v) = v
+stageValue StatusWriteMore = 0
+stageValue (UnlockSecond v) = v
+stageValue UnlockMore = 0
+stageValue WatchdogSecond = 0
+stageValue WatchdogMore = 0
+stageValue RamSecond = 0
+stageValue RamMore = 0
+stageValue EnableMore = 0
+stageValue DisableMore = 0
+
+abbrev pub stageOf : ℕ → ℕ → Stage
+stageOf k v =
+    pick (eqb k 0) Idle
+    (pick (eqb k 1) Opened
+    (pick (eqb k 2) Unheard
+    (pick (eqb k 3) (Instruction (codeOf v))
+    (pick (eqb k 4) (EepromRead (record { 0 = v }))
+    (pick (eqb k 5) (EepromWrite (record { 0 = v }))
+    (pick (eqb k 6) (ClockRead (record { 0 = v }))
+    (pick (eqb k 7) (ClockWrite (record { 0 = v }))
+    (pick (eqb k 8) (IdRead (record { 0 = v }))
+    (pick (eqb k 9) (IdWrite (record { 0 = v }))
+    (pick (eqb k 10) (StatusWrite v)
+    (pick (eqb k 11) StatusWriteMore
+    (pick (eqb k 12) (UnlockSecond v)
+    (pick (eqb k 13) UnlockMore
+    (pick (eqb k 14) WatchdogSecond
+    (pick (eqb k 15) WatchdogMore
+    (pick (eqb k 16) RamSecond
+    (pick (eqb k 17) RamMore
+    (pick (eqb k 18) EnableMore DisableMore))))))))))))))))))
+
+-- what a cycle writes, and where: the memories in the paper's order, then STATUS
+abbrev pub targetKind : Target → ℕ
+targetKind (Eeprom a) = 0
+targetKind (Id a) = 1
+targetKind (Status p) = 2
+
+abbrev pub targetValue : Target → ℕ
+targetValue (Eeprom a) = a .0
+targetValue (Id a) = a .0
+targetValue (Status p) = protectionNumber p
+
+abbrev pub targetOf : ℕ → ℕ → Target
+targetOf k v =
+    pick (eqb k 0) (Eeprom (record { 0 = v }))
+    (pick (eqb k 1) (Id (record { 0 = v })) (Status (protectionOf v)))
