@@ -666,9 +666,6 @@ fn tick_alarms(device: &mut Device, reach: Reach) {
 /// "A wait stops after the first tick that changed IRQ, WDO or WIP, or after n; it reports the
 /// ticks used."
 fn wait(part: u64, device: &mut Device, n: u64, eeprom: &mut [u8], id: &mut [u8]) -> u64 {
-    if !device.power && !device.vbaten() {
-        return n; // every tick would change nothing
-    }
     let lines = device.lines();
     for used in 1..=n {
         tick(part, device, eeprom, id);

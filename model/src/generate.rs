@@ -40,7 +40,7 @@ impl Random {
 }
 
 /// Ticks that a tape may ask for, on average, for each of its lines.
-const TICKS_PER_LINE: u64 = 400;
+const TICKS_PER_LINE: u64 = 800;
 
 struct Writer {
     random: Random,
@@ -70,7 +70,7 @@ pub fn tape(seed: u64, lines: u64) -> Vec<u8> {
     }
     w.raw(format!("op=part arg={}", 1 + seed % 4).as_bytes());
     while w.lines < lines {
-        w.calm = w.random.once_in(3);
+        w.calm = !w.random.once_in(3);
         w.scene();
     }
     let no_last_newline = w.random.once_in(4);
@@ -175,18 +175,15 @@ impl Writer {
 
     fn scene(&mut self) {
         match self.random.below(40) {
-            0..=7 => self.eeprom_write(),
-            8..=10 => self.status_write(),
-            11..=15 => self.id_write(),
-            16..=18 => self.clock_write(),
-            19..=20 => self.look(),
-            21..=26 => self.alarm(),
-            27..=31 => self.watchdog(),
-            32 => {
-                let count = self.random.below(3);
-                let code = self.random.pick(&[CLRRAM, CLRWDT, CLRRAM]);
-                self.frame_with(&[code], count);
-            }
+            0..=6 => self.eeprom_write(),
+            7..=9 => self.status_write(),
+            10..=14 => self.id_write(),
+            15..=16 => self.clock_write(),
+            17..=18 => self.look(),
+            19..=26 => self.alarm(),
+            27..=30 => self.watchdog(),
+            31 => self.oscillator(),
+            32 => self.clear(),
             33 => self.power_cut(),
             34 => self.any_frame(),
             35 => self.refused(),
@@ -230,7 +227,11 @@ impl Writer {
             4 => {
                 let part = self.random.below(164);
                 self.wait(part);
-                self.any_frame();
+                match self.random.below(3) {
+                    0 => self.any_frame(),
+                    1 => self.clear(),
+                    _ => self.clock_write(),
+                }
                 self.look();
                 self.wait(164);
             }
@@ -254,14 +255,16 @@ impl Writer {
     }
 
     fn enable(&mut self) {
-        if !self.random.once_in(10) {
-            self.frame(&[EEWREN]);
+        match self.random.below(24) {
+            0 => {}
+            1 => self.frame(&[EEWREN, 0]),
+            _ => self.frame(&[EEWREN]),
         }
-        if self.random.once_in(15) {
-            self.frame(&[EEWRDI]);
-        }
-        if self.random.once_in(12) {
-            self.frame(&[SRREAD, 0, 0]);
+        match self.random.below(24) {
+            0 => self.frame(&[EEWRDI]),
+            1 => self.frame(&[EEWRDI, 0]),
+            2 | 3 => self.frame(&[SRREAD, 0, 0]),
+            _ => {}
         }
     }
 
@@ -302,49 +305,109 @@ impl Writer {
         self.frame(&[SRREAD, 0]);
     }
 
-    /// A frame that may or may not close the lock.
+    /// Something that may or may not close the lock.
     fn between(&mut self) {
-        match self.random.below(24) {
+        match self.random.below(16) {
             0 => self.frame(&[SRREAD, 0]),
             1 => self.frame(&[EEWREN]),
             2 => self.frame(&[EEWREN, 0]),
             3 => self.frame(&[]),
             4 => self.any_frame(),
-            5 => self.frame(&[UNLOCK, 0x55]),
-            6 => self.frame(&[UNLOCK, 0xAA]),
-            7 => self.short_wait(),
-            _ => {}
+            5 | 6 => self.frame(&[UNLOCK, 0x55]),
+            7 => self.frame(&[UNLOCK, 0xAA]),
+            8 => {
+                let bytes = self.random.pick(&[&[UNLOCK][..], &[UNLOCK, 0x55, 0], &[UNLOCK, 0xAA, 0]]);
+                self.frame(bytes);
+            }
+            9 => {
+                let any = self.random.byte();
+                self.frame(&[any]);
+            }
+            10..=12 => {
+                let (code, count) = (self.a_code(), self.random.below(4));
+                self.frame_with(&[code], count);
+            }
+            13 => self.power_cut(),
+            _ => self.short_wait(),
         }
     }
 
+    /// Unlock, enable, write; in most scenes with one thing more at one place.
     fn id_write(&mut self) {
+        let disturbed = self.random.below(6);
         self.frame(&[UNLOCK, 0x55]);
-        self.between();
+        if disturbed == 0 {
+            self.between();
+        }
         self.frame(&[UNLOCK, 0xAA]);
-        self.between();
+        if disturbed == 1 {
+            self.between();
+        }
         self.enable();
-        self.between();
+        if disturbed == 2 {
+            self.between();
+        }
         let address = self.random.byte();
         let count = self.data_count();
         self.frame_with(&[IDWRITE, address], count);
         self.cycle();
-        self.frame_with(&[IDREAD, address], 5);
+        self.frame_with(&[IDREAD, address & 0xF8], 8);
+        if disturbed == 3 {
+            // Once more, with no unlock: the lock is closed.
+            self.wait(164);
+            self.frame(&[EEWREN]);
+            self.frame_with(&[IDWRITE, address], 1);
+            self.cycle();
+            self.frame_with(&[IDREAD, address], 1);
+        }
+    }
+
+    /// CLRRAM or CLRWDT; there is something to clear, and it is looked at.
+    fn clear(&mut self) {
+        let count = self.random.below(3);
+        if self.random.once_in(2) {
+            self.frame_with(&[WRITE, 0x3D], 4);
+            self.frame_with(&[CLRRAM], count);
+            self.frame_with(&[READ, 0x3C], 6);
+        } else {
+            self.frame(&[WRITE, 0x01, 0x80]);
+            self.wait(32);
+            self.frame(&[WRITE, 0x0A, 0x81]);
+            let ticks = self.random.below(512);
+            self.wait(ticks);
+            self.frame_with(&[CLRWDT], count);
+            self.wait(600);
+        }
+    }
+
+    /// Starts and stops the oscillator, and looks at OSCON and the hundredths.
+    fn oscillator(&mut self) {
+        for _ in 0..2 + self.random.below(6) {
+            let seconds = self.random.pick(&[0x00, 0x80, 0x80]);
+            self.frame(&[WRITE, 0x01, seconds]);
+            let ticks = self.random.pick(&[5, 20, 31, 32, 33, 200, 340]);
+            self.wait(ticks);
+            self.frame(&[READ, 0x00, 0, 0, 0, 0, 0]);
+        }
     }
 
     fn clock_write(&mut self) {
         let address = match self.random.below(3) {
-            0 => self.random.pick(&[0x00, 0x08, 0x0A, 0x17, 0x1E, 0x1F, 0x20, 0x5E, 0x5F, 0x60, 0xFF]),
+            0 => self.random.pick(&[0x00, 0x08, 0x0A, 0x17, 0x1E, 0x1F, 0x20, 0x5E, 0x5F, 0x60, 0xFF, 0xFF]),
             _ => self.random.below(0x60) as u8,
         };
         let count = self.random.below(10);
         self.frame_with(&[WRITE, address], count);
+        if self.random.once_in(2) {
+            self.frame_with(&[READ, address], count);
+        }
     }
 
     fn look(&mut self) {
         match self.random.below(8) {
             0 => self.frame(&[READ, 0, 0, 0, 0, 0, 0, 0, 0, 0]),
             1 => {
-                let address = self.random.pick(&[0x07, 0x12, 0x18, 0x5C, 0x60]);
+                let address = self.random.pick(&[0x07, 0x12, 0x18, 0x5C, 0x60, 0xFE]);
                 self.frame_with(&[READ, address], 14);
             }
             2 => self.frame_with(&[READ, 0], 33),
@@ -367,27 +430,28 @@ impl Writer {
 
     /// A time about to carry: each field its last, any valid one, or any byte.
     fn late_time(&mut self) -> [u8; 8] {
-        const LAST: [[u8; 4]; 8] = [
-            [0x99, 0x98, 0x99, 0x95],
-            [0xD9, 0xD9, 0xD8, 0xDA],
-            [0x59, 0x59, 0x58, 0x60],
-            [0x23, 0x71, 0x51, 0xF1],
-            [0x07, 0x0F, 0x0E, 0x00],
-            [0x31, 0x28, 0x30, 0x29],
-            [0x12, 0x02, 0x04, 0x13],
-            [0x99, 0x00, 0x01, 0x9A],
+        const LAST: [[u8; 8]; 8] = [
+            [0x99, 0x99, 0x99, 0x99, 0x99, 0x98, 0x95, 0x9A],
+            [0xD9, 0xD9, 0xD9, 0xD9, 0xD9, 0xD8, 0xDA, 0xE0],
+            [0x59, 0x59, 0x59, 0x59, 0x59, 0x58, 0x5A, 0x60],
+            [0x23, 0x23, 0xA3, 0x71, 0x71, 0xF1, 0x40, 0x24],
+            [0x07, 0x07, 0x01, 0x02, 0x05, 0x06, 0x00, 0x17],
+            [0x31, 0x31, 0x30, 0x30, 0x29, 0x28, 0x27, 0x00],
+            [0x12, 0x12, 0x11, 0x09, 0x04, 0x02, 0x02, 0x00],
+            [0x99, 0x00, 0x01, 0x04, 0x95, 0x96, 0x9A, 0xA0],
         ];
         let mut time = [0; 8];
-        let settled = self.random.below(8) as usize; // fields from here on are any
+        // Up to here the fields carry; those above are any.
+        let carries = self.random.pick(&[0, 1, 2, 3, 4, 7, 7, 7, 7, 7]);
         for place in 0..8 {
-            let plain = self.random.pick(&[0x01, 0x09, 0x10, 0x12, 0x05]);
-            time[place] = match self.random.below(10) {
-                0 => self.random.byte(),
-                _ if place > settled => plain,
-                _ => self.random.pick(&LAST[place]),
+            let any = self.random.byte();
+            let plain = self.random.pick(&[0x01, 0x09, 0x10, 0x12, 0x05, any]);
+            time[place] = match place > carries {
+                true => plain,
+                false => self.random.pick(&LAST[place]),
             };
         }
-        if !self.random.once_in(8) {
+        if !self.random.once_in(12) {
             time[1] |= 0x80; // ST
         }
         if !self.random.once_in(3) {
@@ -403,12 +467,12 @@ impl Writer {
     fn alarm(&mut self) {
         let time = self.late_time();
         let mut next = time;
-        for _ in 0..1 + self.random.below(3) {
+        for _ in 0..self.random.pick(&[1, 1, 1, 1, 2, 3]) {
             calendar::step(&mut next);
         }
         let mut block = [0; 24];
         block[..8].copy_from_slice(&time);
-        block[0x08] = self.random.byte() | if self.random.once_in(4) { 0 } else { 0x30 };
+        block[0x08] = self.random.byte() | if self.random.once_in(6) { 0 } else { 0x30 };
         block[0x09] = self.random.byte();
         block[0x0A] = if self.random.once_in(4) { self.watchdog_byte() } else { 0 };
         block[0x0B] = self.random.byte();
@@ -418,32 +482,48 @@ impl Writer {
             }
         }
         for day in [ALARM0_DAY, ALARM1_DAY] {
-            let code = self.random.pick(&[0, 0, 1, 2, 3, 4, 5, 5, 6, 7, 7, 7]);
+            let code = self.random.pick(&[0, 1, 2, 3, 4, 5, 6, 7, 7, 7]);
             let pin = if self.random.once_in(3) { 0x80 } else { 0 };
             let flag = if self.random.once_in(8) { 0x08 } else { 0 };
             block[day] = pin | code << 4 | flag | next[4] & 7;
         }
-        if self.random.once_in(3) {
-            let wrong = self.random.below(24) as usize;
-            block[wrong] = self.random.byte();
+        match self.random.below(4) {
+            0 => {
+                // One alarm register differs from the time to come in one bit.
+                let wrong = 0x0C + self.random.below(12) as usize;
+                block[wrong] ^= 1 << self.random.below(7);
+            }
+            1 => {
+                // Many differ; the days stand beside their codes.
+                for wrong in 0x0C..0x18 {
+                    if wrong != ALARM0_DAY && wrong != ALARM1_DAY && self.random.once_in(2) {
+                        block[wrong] = self.random.byte();
+                    }
+                }
+            }
+            _ => {}
         }
         let mut bytes = vec![WRITE, 0];
         bytes.extend(block);
         self.frame(&bytes);
-        for _ in 0..1 + self.random.below(4) {
+        if self.random.once_in(8) {
+            self.power_cut();
+        }
+        for _ in 0..1 + self.random.below(3) {
             match self.random.below(6) {
                 0 => self.short_wait(),
                 1 => self.wait(32),
-                _ => self.wait(700),
+                _ => self.wait(400),
             }
-            match self.random.below(5) {
+            match self.random.below(8) {
                 0 => self.frame(&[WRITE, 0x0F, block[0x0F] & 0xF7]),
                 1 => self.frame(&[WRITE, 0x16, block[0x16] & 0xF7]),
-                2 => self.frame(&[READ, 0, 0, 0, 0, 0, 0, 0, 0, 0]),
-                3 => self.frame(&[READ, 0x0F, 0, 0, 0, 0, 0, 0, 0, 0]),
                 _ => {}
             }
         }
+        self.frame(&[READ, 0, 0, 0, 0, 0, 0, 0, 0, 0]);
+        self.frame(&[READ, 0x0F, 0]);
+        self.frame(&[READ, 0x16, 0]);
     }
 
     fn watchdog_byte(&mut self) -> u8 {
@@ -469,7 +549,7 @@ impl Writer {
         let byte = self.watchdog_byte();
         self.frame(&[WRITE, 0x0A, byte]);
         for _ in 0..1 + self.random.below(5) {
-            match self.random.below(8) {
+            match self.random.below(10) {
                 0 => self.wait(31),
                 1 => self.wait(32),
                 2 => self.wait(600),
@@ -480,12 +560,23 @@ impl Writer {
                 }
                 5 => self.frame(&[WRITE, 0x0A, byte & 0xBF]),
                 6 => self.frame(&[READ, 0x0A, 0]),
+                7 => {
+                    self.frame(&[WRITE, 0x01, 0x00]);
+                    self.wait(5_000);
+                }
+                8 => self.power_cut(),
                 _ => self.short_wait(),
             }
         }
-        if byte & 0x20 != 0 && self.random.once_in(2) {
+        if byte & 0x20 != 0 || self.random.once_in(30) {
+            // A long period, or the delay.
+            let long = byte & 0xB8 | 5 + self.random.below(3) as u8;
+            self.frame(&[WRITE, 0x01, 0x80]);
+            self.wait(32);
+            self.frame(&[WRITE, 0x0A, long]);
             self.wait(DELAY);
-            self.wait(4_200);
+            self.wait(DELAY);
+            self.frame(&[READ, 0x0A, 0]);
         }
     }
 
@@ -513,14 +604,15 @@ impl Writer {
 
     /// An act that the table refuses now or mostly.
     fn refused(&mut self) {
+        let past = self.random.pick(&[0, 0, 0, 1, 248, 1_000]);
         let line = match self.random.below(12) {
-            0 => format!("op=byte arg={}", 256 + self.random.below(1_000)),
-            1 => format!("op=end arg={}", 8 + self.random.below(300)),
-            2 => format!("op=wait arg={}", LONGEST_WAIT + 1 + self.random.below(1_000)),
+            0 => format!("op=byte arg={}", 256 + past),
+            1 => format!("op=end arg={}", 8 + past),
+            2 => format!("op=wait arg={}", LONGEST_WAIT + 1 + past),
             3 => "op=wait arg=99999999".to_string(),
-            4 => format!("op=cut arg={}", 256 + self.random.below(1_000)),
-            5 => format!("op=select arg={}", 1 + self.random.below(9)),
-            6 => format!("op=up arg={}", 1 + self.random.below(9)),
+            4 => format!("op=cut arg={}", 256 + past),
+            5 => format!("op=select arg={}", 1 + past),
+            6 => format!("op=up arg={}", 1 + past),
             7 => "op=up arg=0".to_string(),
             8 => "op=select arg=0".to_string(),
             9 => format!("op=byte arg={}", self.random.below(256)),
