@@ -54,13 +54,8 @@ struct Writer {
 
 /// A tape of `lines` lines. `seed % 4` chooses the part.
 pub fn tape(seed: u64, lines: u64) -> Vec<u8> {
-    let mut writer = Writer {
-        random: Random::new(seed),
-        tape: Vec::new(),
-        lines: 0,
-        budget: 0,
-        calm: false,
-    };
+    let mut writer =
+        Writer { random: Random::new(seed), tape: Vec::new(), lines: 0, budget: 0, calm: false };
     let w = &mut writer;
     if w.random.once_in(8) {
         w.budget = 4 * DELAY; // some tapes see the watchdog's delay run out
@@ -278,7 +273,9 @@ impl Writer {
 
     fn eeprom_write(&mut self) {
         let address = match self.random.below(3) {
-            0 => self.random.pick(&[0x00, 0x07, 0x3F, 0x40, 0x5F, 0x60, 0x7F, 0x80, 0xBF, 0xC0, 0xFF]),
+            0 => self
+                .random
+                .pick(&[0x00, 0x07, 0x3F, 0x40, 0x5F, 0x60, 0x7F, 0x80, 0xBF, 0xC0, 0xFF]),
             _ => self.random.byte(),
         };
         self.enable();
@@ -316,7 +313,8 @@ impl Writer {
             5 | 6 => self.frame(&[UNLOCK, 0x55]),
             7 => self.frame(&[UNLOCK, 0xAA]),
             8 => {
-                let bytes = self.random.pick(&[&[UNLOCK][..], &[UNLOCK, 0x55, 0], &[UNLOCK, 0xAA, 0]]);
+                let bytes =
+                    self.random.pick(&[&[UNLOCK][..], &[UNLOCK, 0x55, 0], &[UNLOCK, 0xAA, 0]]);
                 self.frame(bytes);
             }
             9 => {
@@ -393,7 +391,9 @@ impl Writer {
 
     fn clock_write(&mut self) {
         let address = match self.random.below(3) {
-            0 => self.random.pick(&[0x00, 0x08, 0x0A, 0x17, 0x1E, 0x1F, 0x20, 0x5E, 0x5F, 0x60, 0xFF, 0xFF]),
+            0 => self
+                .random
+                .pick(&[0x00, 0x08, 0x0A, 0x17, 0x1E, 0x1F, 0x20, 0x5E, 0x5F, 0x60, 0xFF, 0xFF]),
             _ => self.random.below(0x60) as u8,
         };
         let count = self.random.below(10);

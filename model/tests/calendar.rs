@@ -63,7 +63,8 @@ fn hours_in_12_hour_form() {
     ];
     for pair in day.windows(2) {
         assert_eq!(next_hours(pair[0]), (pair[1], pair[0] == 0x71));
-        assert_eq!(next_hours(0x80 | pair[0]), (0x80 | pair[1], pair[0] == 0x71)); // CALSGN
+        assert_eq!(next_hours(0x80 | pair[0]), (0x80 | pair[1], pair[0] == 0x71));
+        // CALSGN
     }
     // Not valid: 12 AM, with carry.
     for hour in [0x40, 0x60, 0x53, 0x59, 0x73, 0x4A, 0x5F, 0x7F] {

@@ -10,7 +10,8 @@ use model::Act;
 
 /// Both memories are what the ledger says.
 fn same_bytes(rig: &Rig, ledger: &Ledger) -> bool {
-    let eeprom = rig.eeprom.iter().enumerate().all(|(i, &b)| ledger.byte_at(Memory::Eeprom, i) == b);
+    let eeprom =
+        rig.eeprom.iter().enumerate().all(|(i, &b)| ledger.byte_at(Memory::Eeprom, i) == b);
     let id = rig.id.iter().enumerate().all(|(i, &b)| ledger.byte_at(Memory::Id, i) == b);
     eeprom && id
 }

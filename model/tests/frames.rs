@@ -453,7 +453,8 @@ fn which_frames_close_the_lock() {
     // closes it at its end".
     for code in 0..=255 {
         let keeps = matches!(code, 0x06 | 0x05);
-        for (frame, leftover) in [(&[code][..], 0), (&[code], 3), (&[code, 0], 0), (&[code, 0, 0], 0)]
+        for (frame, leftover) in
+            [(&[code][..], 0), (&[code], 3), (&[code, 0], 0), (&[code, 0, 0], 0)]
         {
             if code == 0x14 {
                 continue;

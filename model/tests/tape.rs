@@ -82,10 +82,10 @@ fn every_line_is_answered() {
     assert_eq!(answered(b"op=part arg=1\n").len(), 1);
     assert_eq!(answered(b"op=part arg=1\nx").len(), 2);
     assert_eq!(answered(&[b'x'; 100_000]).len(), 1);
-    assert_eq!(answered(b"op=part arg=1\n\nop=select arg=0\n")[1..], [
-        "no=7 out=z irq=1 wdo=1",
-        "no=0 out=z irq=1 wdo=1"
-    ]);
+    assert_eq!(
+        answered(b"op=part arg=1\n\nop=select arg=0\n")[1..],
+        ["no=7 out=z irq=1 wdo=1", "no=0 out=z irq=1 wdo=1"]
+    );
 }
 
 #[test]

@@ -129,27 +129,20 @@ fn each_code_matches_its_field() {
 
 #[test]
 fn tested_when_the_finest_field_advances() {
-    // "tested at the tick that advances the finest field it compares (bench)"
-    for (code, ticks) in [
-        (0, 32_768),           // seconds 00 come at the next second
-        (1, 60 * 32_768),      // minutes
-        (2, 60 * 60 * 32_768), // hours
-    ] {
-        // At 00:00:00.00 every field already equals the alarm; it must not match before its
-        // field takes a value again.
+    // "tested at the tick that advances the finest field it compares (bench)": from 22:59:58 the
+    // alarm of 23:00:59 matches by its seconds after one second, by its minutes or hours after
+    // two, when they take the value.
+    for (code, until) in [(0, 32_768), (1, 2 * 32_768), (2, 2 * 32_768)] {
         let mut rig = with_alarm(
             [0x00, 0x58, 0x59, 0x22, 0x01, 0x01, 0x01, 0x00],
             &[(0x08, 0x10), (0x0C, 0x59), (0x0D, 0x00), (0x0E, 0x23), (0x0F, code << 4)],
         );
-        let until = match code {
-            0 => 32_768,
-            _ => 2 * 32_768, // 22:59:58 to 23:00:00
-        };
-        assert_eq!(rig.wait(ticks.min(16_777_216)), until);
+        assert_eq!(rig.wait(200_000), until);
         assert_eq!(rig.lines(), (0, 1));
-        // Cleared, it stays clear while the field keeps its value.
+        // Cleared, it stays clear while the field only keeps its value.
         rig.write(0x0F, &[code << 4]);
-        assert_eq!(rig.wait(32_767), 32_767);
+        assert_eq!(rig.wait(32_768), 32_768);
+        assert_eq!(rig.read(0x0F), code << 4);
     }
 }
 
@@ -227,10 +220,7 @@ fn lines_of_an_alarm() {
 #[test]
 fn a_wait_stops_at_lines_not_at_flags() {
     // Both alarms on IRQ: the second flag does not change the line.
-    let mut rig = with_alarm(
-        [0, 0, 0, 0, 1, 1, 1, 0],
-        &[(0x08, 0x30), (0x0C, 0x01), (0x13, 0x02)],
-    );
+    let mut rig = with_alarm([0, 0, 0, 0, 1, 1, 1, 0], &[(0x08, 0x30), (0x0C, 0x01), (0x13, 0x02)]);
     assert_eq!(rig.wait(200_000), 32_768);
     assert_eq!(rig.wait(100_000), 100_000);
     assert_eq!((rig.read(0x0F), rig.read(0x16)), (0x08, 0x08));
@@ -422,10 +412,8 @@ fn a_wait_stops_at_wip() {
 #[test]
 fn all_three_lines_in_one_tick() {
     // A cycle's last tick, a watchdog's time-out and an alarm's match, all at once: one stop.
-    let mut rig = with_alarm(
-        [0x99, 0x59, 0, 0, 1, 1, 1, 0],
-        &[(0x08, 0x10), (0x0C, 0x00), (0x0A, 0x81)],
-    );
+    let mut rig =
+        with_alarm([0x99, 0x59, 0, 0, 1, 1, 1, 0], &[(0x08, 0x10), (0x0C, 0x00), (0x0A, 0x81)]);
     rig.device.divider = 32_768 - 164;
     rig.device.watchdog = 512 - 164;
     rig.eeprom_write(0, &[1]);
