@@ -77,14 +77,24 @@ validDate month year x = validField dateFirst (dateLast month year) x
 abbrev pub nextInMonth : ℕ → ℕ → ℕ → Step
 nextInMonth month year x = nextField dateFirst (dateLast month year) x
 
--- Document 01, "Calendar and ticks": day and date together, month, year; the day's carry goes nowhere. The carry is the year's.
+-- Document 01, "Calendar and ticks": day and date together, month, year; the day's carry goes nowhere.
+abbrev pub dayStep : Date → Step
+dayStep d = nextDay (d .day)
+
+abbrev pub dateStep : Date → Step
+dateStep d = nextInMonth (d .month) (d .year) (d .date)
+
+abbrev pub monthStep : Date → Step
+monthStep d = onCarry (dateStep d .carry) (d .month) (nextMonth (d .month))
+
+abbrev pub yearStep : Date → Step
+yearStep d = onCarry (monthStep d .carry) (d .year) (nextYear (d .year))
+
+-- The carry is the year's.
 unfoldable pub nextDate : Date → DateStep
 nextDate d =
-    let day : Step = nextDay (d .day) in
-    let date : Step = nextInMonth (d .month) (d .year) (d .date) in
-    let month : Step = onCarry (date .carry) (d .month) (nextMonth (d .month)) in
-    let year : Step = onCarry (month .carry) (d .year) (nextYear (d .year)) in
     record {
-      date = record { day = day .value; date = date .value; month = month .value; year = year .value };
-      carry = year .carry;
+      date =
+          record { day = dayStep d .value; date = dateStep d .value; month = monthStep d .value; year = yearStep d .value };
+      carry = yearStep d .carry;
     }

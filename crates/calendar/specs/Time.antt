@@ -37,27 +37,39 @@ onDay carry t = pick carry (withDate t (nextDate (dateOf t) .date)) t
 
 -- Document 01, "Calendar and ticks": Order: hundredths, seconds, minutes, hours, then day and date together, month, year. Hundredths
 -- always advance; each other field where the one before it carried.
-unfoldable pub advanced : Time → Advanced
-advanced t =
-    let hundredths : Step = nextHundredths (t .hundredths) in
-    let seconds : Step = onCarry (hundredths .carry) (t .seconds) (nextSeconds (t .seconds)) in
-    let minutes : Step = onCarry (seconds .carry) (t .minutes) (nextMinutes (t .minutes)) in
-    let hours : Step = onCarry (minutes .carry) (t .hours) (nextHours (t .hours)) in
-    let clock : Time =
+abbrev pub hundredthsStep : Time → Step
+hundredthsStep t = nextHundredths (t .hundredths)
+
+abbrev pub secondsStep : Time → Step
+secondsStep t = onCarry (hundredthsStep t .carry) (t .seconds) (nextSeconds (t .seconds))
+
+abbrev pub minutesStep : Time → Step
+minutesStep t = onCarry (secondsStep t .carry) (t .minutes) (nextMinutes (t .minutes))
+
+abbrev pub hoursStep : Time → Step
+hoursStep t = onCarry (minutesStep t .carry) (t .hours) (nextHours (t .hours))
+
+-- The registers after these four, before the date.
+abbrev pub clockAdvanced : Time → Time
+clockAdvanced t =
     record {
-      hundredths = hundredths .value;
-      seconds = seconds .value;
-      minutes = minutes .value;
-      hours = hours .value;
+      hundredths = hundredthsStep t .value;
+      seconds = secondsStep t .value;
+      minutes = minutesStep t .value;
+      hours = hoursStep t .value;
       day = t .day;
       date = t .date;
       month = t .month;
       year = t .year;
-    } in
+    }
+
+-- The next eight bytes, and which fields took a value.
+unfoldable pub advanced : Time → Advanced
+advanced t =
     record {
-      time = onDay (hours .carry) clock;
-      seconds = hundredths .carry;
-      minutes = seconds .carry;
-      hours = minutes .carry;
-      days = hours .carry;
+      time = onDay (hoursStep t .carry) (clockAdvanced t);
+      seconds = hundredthsStep t .carry;
+      minutes = secondsStep t .carry;
+      hours = minutesStep t .carry;
+      days = hoursStep t .carry;
     }
