@@ -42,6 +42,12 @@ protection-back Quarter = refl
 protection-back Half = refl
 protection-back All = refl
 
+pub protection-below : (x : Protection) → protectionNumber x < 4
+protection-below Nothing = omega arith
+protection-below Quarter = omega arith
+protection-below Half = omega arith
+protection-below All = omega arith
+
 pub lock-back : (x : Lock) → lockOf (lockNumber x) ≡ x
 lock-back Closed = refl
 lock-back First = refl

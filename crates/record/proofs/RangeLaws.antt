@@ -3,17 +3,16 @@
 -- Assumes nothing.
 use Prim.Native.Nat.{ℕ, _<_, _≤_}
 use native.Mathlib.Omega.{arith}
-use mathlib.Core.Path.{_≡_, refl, sym, ap, _∙_}
-use mathlib.Core.Logic.{_⊎_, inl, inr, ⊎-elim, _≢_, _↔_}
+use mathlib.Core.Path.{_≡_, refl, ap}
+use mathlib.Core.Logic.{inl, inr, ⊎-elim, _≢_, _↔_}
 use mathlib.Core.Bool.{Bool, true, false, not, _&&_, _||_, true≢false, false≢true}
 use borrow.Author.Tests.{lt-ltb, lt-leb, ltb-true, ltb-false, leb-true, leb-false, eqb-true, eqb-false, not-true, not-false}
-use lib.Dec.{ltb, leb, eqb}
+use lib.Dec.{ltb, leb}
 use lib.ListN.{getD}
-use Rattle.base.specs.Words.{pick, every, bit}
+use Rattle.base.specs.Words.{every, bit}
 use Rattle.base.proofs.Tests.{by-cases, both-left, both-right, both-true, either, neither-left, neither-right, true-false}
 use Rattle.base.proofs.Every.{every-at, every-miss}
 use Rattle.record.specs.declared.Device.{Device}
-use Rattle.record.specs.declared.Cycle.{Cycle}
 use Rattle.record.specs.declared.EepromAddress.{EepromAddress}
 use Rattle.record.specs.declared.IdAddress.{IdAddress}
 use Rattle.record.specs.declared.Code.{Code}
@@ -27,7 +26,7 @@ use Rattle.record.specs.Registers.{secondsAt}
 use Rattle.record.specs.Fresh.{fresh, freshRegs}
 use Rattle.record.specs.Range.{selected, heardUnderWip, foreignToWip, idAt, idIn, eepromAt, eepromIn, dividerAbove, startupAbove, countdownAbove, pulseAbove, delayAbove, watchdogPast, offsetAbove, idPointerAbove, eepromPointerPast, insideMask, bitOutside, startupStopped, busyWithoutPower, foreignFrame, countersOut, frameOut, outOfRange}
 use Rattle.record.specs.InRange.{InRange}
-use Rattle.record.specs.Rows.{IdPointer, id-read, id-written, id-cycle, EepromPointer, eeprom-read, eeprom-written, eeprom-cycle, HeardFrame, instruction, eeread, eewrite, read, write, idread, idwrite, srwrite, srwrite-more, unlock, unlock-more, clrwdt, clrwdt-more, clrram, clrram-more, eewren-more, eewrdi-more, Five, srread-five, read-five, write-five, clrwdt-five, clrram-five, Selected, RangeRow, divider, startup, countdown, pulse, delay, watchdog, offset, idPointer, eepromPointer, outside, stopped, unpowered, foreign}
+use Rattle.record.specs.Rows.{IdPointer, id-read, id-written, id-cycle, EepromPointer, eeprom-read, eeprom-written, eeprom-cycle, HeardFrame, instruction, eeread, eewrite, read, write, idread, idwrite, srwrite, srwrite-more, unlock, unlock-more, clrwdt, clrwdt-more, clrram, clrram-more, eewren-more, eewrdi-more, Five, srread-five, read-five, write-five, clrwdt-five, clrram-five, RangeRow, divider, startup, countdown, pulse, delay, watchdog, offset, idPointer, eepromPointer, outside, stopped, unpowered, foreign}
 
 -- six tests of which none holds, and of which one does
 none-of-six :

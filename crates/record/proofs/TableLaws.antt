@@ -1,14 +1,14 @@
 -- The refusal table, proved: the chain that decides answers k exactly when row k holds and no row before it does, and 0 exactly
 -- when none holds. What an accepted act may suppose, and that each part accepts each act.
 -- Assumes nothing.
-use Prim.Native.Nat.{ℕ, _<_, _≤_}
+use Prim.Native.Nat.{ℕ, _≤_}
 use native.Mathlib.Omega.{arith}
 use mathlib.Core.Path.{_≡_, refl, sym, ap, subst, _∙_}
-use mathlib.Core.Logic.{_⊎_, inl, inr, ⊎-elim, _≢_, _↔_}
-use mathlib.Core.Bool.{Bool, true, false, not, _&&_, _||_, or-true, true≢false, false≢true}
+use mathlib.Core.Logic.{inl, inr, ⊎-elim, _↔_}
+use mathlib.Core.Bool.{Bool, true, false, not, or-true, false≢true}
 use mathlib.Core.List.{List, [], _∷_}
-use borrow.Author.Tests.{lt-ltb, le-leb, eq-eqb, ne-eqb, ltb-true, leb-true, leb-false, eqb-true, eqb-false, not-true, not-false}
-use lib.Dec.{ltb, leb, eqb, lit<}
+use borrow.Author.Tests.{lt-ltb, eq-eqb, ne-eqb, ltb-true, leb-true, leb-false, eqb-true, eqb-false, not-true, not-false}
+use lib.Dec.{leb, eqb, lit<}
 use Rattle.base.specs.Words.{pick, every}
 use Rattle.base.proofs.Tests.{by-cases, both-left, both-right, either, neither-left, neither-right, true-false, row}
 use Rattle.base.proofs.Every.{every-at}
@@ -20,7 +20,7 @@ use Rattle.record.specs.declared.Stage.the-variants.{Idle, Opened}
 use Rattle.record.specs.Part.{isPart, sizeOf, idSize}
 use Rattle.record.specs.Fresh.{fresh}
 use Rattle.record.specs.Range.{selected, countersOut, frameOut, bitOutside, outOfRange}
-use Rattle.record.specs.Refusal.{wrongLength, wrongNumber, wrongPower, wrongSelect, firstRefusal, refusalOf}
+use Rattle.record.specs.Refusal.{wrongLength, wrongNumber, wrongPower, wrongSelect, refusalOf}
 use Rattle.record.specs.Rows.{PartRow, LengthRow, RangeRow, NumberRow, leftover, wait, byte, mask, select, up, PowerRow, select-off, byte-off, end-off, cut-off, up-on, SelectedRow, select-again, NotSelectedRow, byte-alone, end-alone, Row, table, First, Answered}
 use Rattle.record.proofs.RangeLaws.{idle, not-idle, range-row}
 

@@ -1,7 +1,7 @@
 -- The three kinds of address, and how each is taken from a byte and rolls over. No definition turns one kind into another.
 -- Document 01, "Frames".
 -- Assumes nothing.
-use Prim.Native.Nat.{ℕ, _+_, _-_, _*_, _/_, _%_}
+use Prim.Native.Nat.{ℕ, _+_, _*_, _/_, _%_}
 use lib.Dec.{ltb, eqb}
 use lib.Bits.{bitAnd}
 use Rattle.base.specs.Words.{pick}

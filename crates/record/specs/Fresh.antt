@@ -6,11 +6,6 @@ use mathlib.Core.Bool.{true, false}
 use mathlib.Core.List.{List}
 use lib.ListN.{set, replicate}
 use Rattle.record.specs.declared.Device.{Device}
-use Rattle.record.specs.declared.Counters.{Counters}
-use Rattle.record.specs.declared.Guard.{Guard}
-use Rattle.record.specs.declared.Frame.{Frame}
-use Rattle.record.specs.declared.Load.{Load}
-use Rattle.record.specs.declared.Cycle.{Cycle}
 use Rattle.record.specs.declared.Protection.the-variants.{Nothing}
 use Rattle.record.specs.declared.Lock.the-variants.{Closed}
 use Rattle.record.specs.declared.Stage.the-variants.{Idle}

@@ -2,7 +2,6 @@
 -- Codes are those of 000, table 3-1; protection is BP1 BP0.
 -- Assumes nothing.
 use Prim.Native.Nat.{ℕ}
-use mathlib.Core.Bool.{Bool, true, false}
 use lib.Dec.{eqb}
 use Rattle.base.specs.Words.{pick}
 use Rattle.record.specs.declared.Code.{Code}

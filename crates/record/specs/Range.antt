@@ -2,13 +2,13 @@
 -- that it reads, in the paper's order. A record that no row names is in range and answers as a chip.
 -- Every EEPROM and ID pointer is judged, in use or not; a clock address never is.
 -- Assumes nothing.
-use Prim.Native.Nat.{ℕ, _+_}
+use Prim.Native.Nat.{ℕ}
 use mathlib.Core.Bool.{Bool, true, false, not, _&&_, _||_}
 use mathlib.Core.List.{List}
 use lib.Dec.{ltb, leb, eqb}
 use lib.Bits.{bitAnd}
 use lib.ListN.{getD}
-use Rattle.base.specs.Words.{pick, every, bit}
+use Rattle.base.specs.Words.{every, bit}
 use Rattle.record.specs.declared.Device.{Device}
 use Rattle.record.specs.declared.Counters.{Counters}
 use Rattle.record.specs.declared.Load.{Load}

@@ -2,11 +2,10 @@
 -- Number 7 is the tape's. The rows in the paper's words, apart from this chain, stand in Rows.
 -- Assumes nothing.
 use Prim.Native.Nat.{ℕ}
-use mathlib.Core.Bool.{Bool, true, false, not, _||_}
+use mathlib.Core.Bool.{Bool, false, not, _||_}
 use lib.Dec.{ltb, eqb}
 use Rattle.base.specs.Words.{pick}
 use Rattle.record.specs.declared.Device.{Device}
-use Rattle.record.specs.declared.Stage.{Stage}
 use Rattle.record.specs.declared.Act.{Act}
 use Rattle.record.specs.declared.Act.the-variants.{Select, Byte, End, Wait, Cut, Up}
 use Rattle.record.specs.Part.{isPart, sizeOf, idSize}

@@ -9,7 +9,6 @@ use crate::Target;
 ghost use mathlib.Core.Path.{_≡_};
 ghost use Rattle.record.specs.Range.{selected, heardUnderWip, foreignToWip, idAt, eepromAt, idIn, eepromIn, bitOutside, countersOut, frameOut, outOfRange};
 ghost use Rattle.record.specs.Registers.{periodOf};
-ghost use Rattle.record.specs.Part.{sizeOf};
 
 // The bits that a register may hold.
 const KEPT: [u8; 32] = [
@@ -73,25 +72,7 @@ pub fn is_selected(stage: Stage) -> bool
 {
     match stage {
         Stage::Idle => false,
-        Stage::Opened => true,
-        Stage::Unheard => true,
-        Stage::Instruction(_) => true,
-        Stage::EepromRead(_) => true,
-        Stage::EepromWrite(_) => true,
-        Stage::ClockRead(_) => true,
-        Stage::ClockWrite(_) => true,
-        Stage::IdRead(_) => true,
-        Stage::IdWrite(_) => true,
-        Stage::StatusWrite(_) => true,
-        Stage::StatusWriteMore => true,
-        Stage::UnlockSecond(_) => true,
-        Stage::UnlockMore => true,
-        Stage::WatchdogSecond => true,
-        Stage::WatchdogMore => true,
-        Stage::RamSecond => true,
-        Stage::RamMore => true,
-        Stage::EnableMore => true,
-        Stage::DisableMore => true,
+        _ => true,
     }
 }
 
@@ -125,22 +106,13 @@ fn foreign_to_wip(stage: Stage) -> bool
         Stage::Opened => false,
         Stage::Unheard => false,
         Stage::Instruction(c) => !heard_under_wip(c),
-        Stage::EepromRead(_) => true,
-        Stage::EepromWrite(_) => true,
         Stage::ClockRead(_) => false,
         Stage::ClockWrite(_) => false,
-        Stage::IdRead(_) => true,
-        Stage::IdWrite(_) => true,
-        Stage::StatusWrite(_) => true,
-        Stage::StatusWriteMore => true,
-        Stage::UnlockSecond(_) => true,
-        Stage::UnlockMore => true,
         Stage::WatchdogSecond => false,
         Stage::WatchdogMore => false,
         Stage::RamSecond => false,
         Stage::RamMore => false,
-        Stage::EnableMore => true,
-        Stage::DisableMore => true,
+        _ => true,
     }
 }
 
@@ -148,26 +120,9 @@ fn id_at(stage: Stage) -> u8
     ensures { λ r. ⌜ r ≡ idAt stage ⌝ }
 {
     match stage {
-        Stage::Idle => 0,
-        Stage::Opened => 0,
-        Stage::Unheard => 0,
-        Stage::Instruction(_) => 0,
-        Stage::EepromRead(_) => 0,
-        Stage::EepromWrite(_) => 0,
-        Stage::ClockRead(_) => 0,
-        Stage::ClockWrite(_) => 0,
         Stage::IdRead(a) => a.0,
         Stage::IdWrite(a) => a.0,
-        Stage::StatusWrite(_) => 0,
-        Stage::StatusWriteMore => 0,
-        Stage::UnlockSecond(_) => 0,
-        Stage::UnlockMore => 0,
-        Stage::WatchdogSecond => 0,
-        Stage::WatchdogMore => 0,
-        Stage::RamSecond => 0,
-        Stage::RamMore => 0,
-        Stage::EnableMore => 0,
-        Stage::DisableMore => 0,
+        _ => 0,
     }
 }
 
@@ -175,26 +130,9 @@ fn eeprom_at(stage: Stage) -> u8
     ensures { λ r. ⌜ r ≡ eepromAt stage ⌝ }
 {
     match stage {
-        Stage::Idle => 0,
-        Stage::Opened => 0,
-        Stage::Unheard => 0,
-        Stage::Instruction(_) => 0,
         Stage::EepromRead(a) => a.0,
         Stage::EepromWrite(a) => a.0,
-        Stage::ClockRead(_) => 0,
-        Stage::ClockWrite(_) => 0,
-        Stage::IdRead(_) => 0,
-        Stage::IdWrite(_) => 0,
-        Stage::StatusWrite(_) => 0,
-        Stage::StatusWriteMore => 0,
-        Stage::UnlockSecond(_) => 0,
-        Stage::UnlockMore => 0,
-        Stage::WatchdogSecond => 0,
-        Stage::WatchdogMore => 0,
-        Stage::RamSecond => 0,
-        Stage::RamMore => 0,
-        Stage::EnableMore => 0,
-        Stage::DisableMore => 0,
+        _ => 0,
     }
 }
 
