@@ -1,11 +1,13 @@
 -- Laws of bits: a mask of one bit tests it, a mask of the lowest bits keeps what is below it, the count of ones is the number of members.
 -- Assumes nothing.
-use mathlib.Core.Path.{_≡_, refl, sym, _∙_}
+use mathlib.Core.Path.{_≡_, refl, sym, ap, _∙_}
 use mathlib.Core.Bool.{Bool, true, false, not, Bool·beq, _&&_}
-use Prim.Native.Nat.{ℕ, _-_, _<_, _^_}
+use Prim.Native.Nat.{ℕ, _-_, _/_, _%_, _<_, _^_, min}
+use native.Mathlib.Omega.{arith}
 use lib.Dec.{T, eqb, ltb}
 use borrow.Author.Tests.{eqb-true, eq-eqb, ltb-true, lt-ltb}
-use lib.Bits.{bitAnd, bitOr}
+use lib.Arith.{bin-ind}
+use lib.Bits.{bitAnd, bitOr, and-step, and-shr}
 use lib.Count.{ones, onesIn}
 use Rattle.base.specs.Words.{every, bit, members}
 use Rattle.base.proofs.Tests.{same→eq, true-T}
@@ -31,3 +33,18 @@ mask-below k hk b hb e = ltb-true b (2 ^ k) (sym (low-mask k hk b hb) ∙ eq-eqb
 
 pub below-mask : (k : ℕ) → k < 9 → (b : ℕ) → b < 256 → b < 2 ^ k → bitAnd b (2 ^ k - 1) ≡ b
 below-mask k hk b hb h = eqb-true (bitAnd b (2 ^ k - 1)) b (low-mask k hk b hb ∙ lt-ltb b (2 ^ k) h)
+
+-- of three numbers it does not matter which two are taken together
+low-digit : (a b : ℕ) → bitAnd a b % 2 ≡ min (a % 2) (b % 2)
+low-digit a b = omega (arith, and-step a b)
+
+pub and-assoc : (a b c : ℕ) → bitAnd (bitAnd a b) c ≡ bitAnd a (bitAnd b c)
+and-assoc =
+    bin-ind (λ (a : ℕ). (b c : ℕ) → bitAnd (bitAnd a b) c ≡ bitAnd a (bitAnd b c)) (λ b c. refl)
+    (λ a ih b c.
+    let h : bitAnd (bitAnd a b / 2) (c / 2) ≡ bitAnd (a / 2) (bitAnd b c / 2) = simp (and-shr a b 1, and-shr b c 1) (ih (b / 2) (c / 2)) in
+    and-step (bitAnd a b) c ∙ omega (arith, h, low-digit a b, low-digit b c) ∙ sym (and-step a (bitAnd b c)))
+
+-- a number under a mask that lies inside another is inside the other
+pub and-inside : (v w m : ℕ) → bitAnd w m ≡ w → bitAnd (bitAnd v w) m ≡ bitAnd v w
+and-inside v w m e = and-assoc v w m ∙ ap (bitAnd v) e

@@ -2,7 +2,7 @@
 -- Assumes nothing.
 use mathlib.Core.Path.{_≡_, refl, ap, _∙_}
 use mathlib.Core.Bool.{Bool, true, false}
-use mathlib.Core.List.{List}
+use mathlib.Core.List.{List, [], _∷_}
 use Prim.Native.Nat.{ℕ, zero, suc, _+_, _<_}
 use native.Mathlib.Numerals.{add-one}
 use lib.ListN.{length, getD, set, length-set}
@@ -26,3 +26,12 @@ store-length m base s bytes (suc n) =
     pick-case (λ (l : List ℕ). length l ≡ length m) (bit s n)
     (length-set (storeUnder m base s bytes n) (base + n) (getD bytes n 0) ∙ store-length m base s bytes n)
     (store-length m base s bytes n)
+
+-- what holds of the stored value where it is read, and of the value that was there, holds of the value there after the store
+pub set-case :
+    (P : ℕ → Type 0) (l : List ℕ) (i k v : ℕ) → (k ≡ i → P v) → P (getD l k 0) → P (getD (set l i v) k 0)
+set-case P [] i k v p q = q
+set-case P (x ∷ xs) zero zero v p q = p refl
+set-case P (x ∷ xs) zero (suc k) v p q = q
+set-case P (x ∷ xs) (suc i) zero v p q = q
+set-case P (x ∷ xs) (suc i) (suc k) v p q = set-case P xs i k v (λ e. p (ap suc e)) q

@@ -6,7 +6,7 @@ use mathlib.Core.Logic.{_⊎_, inl, inr}
 use Prim.Native.Nat.{ℕ, _<_}
 use native.Mathlib.Omega.{arith}
 use lib.Dec.{T, eqb, eqb→eq}
-use Rattle.base.specs.Words.{pick}
+use Rattle.base.specs.Words.{pick, flag}
 
 -- by the two cases of a test
 pub by-cases : {P : Type 0} (b : Bool) → (b ≡ true → P) → (b ≡ false → P) → P
@@ -91,3 +91,8 @@ same→eq true true t = refl
 same→eq true false t = absurd t
 same→eq false true t = absurd t
 same→eq false false t = refl
+
+-- the number of a test is 0 or 1
+pub flag-below : (t : Bool) → flag t < 2
+flag-below true = omega arith
+flag-below false = omega arith

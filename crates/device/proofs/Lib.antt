@@ -1,0 +1,4 @@
+pub mod ClockLaws
+pub mod LineLaws
+pub mod WatchdogLaws
+pub mod RegisterLaws

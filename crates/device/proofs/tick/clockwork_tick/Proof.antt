@@ -1,0 +1,19 @@
+-- `device::tick::clockwork_tick` meets its contract.
+-- Assumes nothing.
+use Rattle.device.specs.Tick.{clockwork}
+use borrow.Author.Needs.{needs}
+use Rattle.device.proofs.tick.clockwork_tick.Statement.{statement}
+use Rattle.device.proofs.tick.clockwork_tick.Tie as tie
+
+returns : tie.Need-returns
+unfolding clockwork
+returns c = simp (c .clock-tick .ensures, c .before .watchdog-tick .ensures, c .before .before .oscillator-tick .ensures)
+
+pub clockwork-tick-spec : {M : Type 1} → statement M
+clockwork-tick-spec =
+    tie.close
+    (tie.spec
+    (λ c κs. search needs)
+    (λ c κs. search needs)
+    (λ c κs. search needs)
+    returns)

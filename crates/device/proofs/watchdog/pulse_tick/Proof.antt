@@ -1,0 +1,17 @@
+-- `device::watchdog::pulse_tick` meets its contract.
+-- Assumes nothing.
+use Rattle.device.proofs.WatchdogLaws.{pulse-still}
+use borrow.Author.Needs.{needs}
+use Rattle.device.proofs.watchdog.pulse_tick.Statement.{statement}
+use Rattle.device.proofs.watchdog.pulse_tick.Tie as tie
+
+returns-2 : tie.Need-returns-2
+returns-2 c = pulse-still (c .before .before .before .args .d) (c .if1 .left)
+
+pub pulse-tick-spec : {M : Type 1} → statement M
+pulse-tick-spec =
+    tie.close
+    (tie.spec
+    (λ c. search needs)
+    (λ c. search needs)
+    returns-2)

@@ -1,0 +1,85 @@
+-- A tick, over the record and both memories, and a wait. Document 01, "Calendar and ticks": "A tick runs in order: write
+-- cycle, oscillator, watchdog, calendar, alarms."
+-- Assumes nothing.
+use Prim.Native.Nat.{ℕ, zero, suc, _+_, _-_}
+use mathlib.Core.Bool.{Bool, true, false, _||_}
+use mathlib.Core.List.{List}
+use lib.Dec.{ltb, eqb}
+use lib.ListN.{getD}
+use Rattle.base.specs.Words.{pick, bit}
+use Rattle.calendar.specs.Time.{advanced}
+use Rattle.record.specs.declared.Device.{Device}
+use Rattle.record.specs.declared.Guard.{Guard}
+use Rattle.record.specs.declared.Cycle.{Cycle}
+use Rattle.record.specs.Registers.{dayAt}
+use Rattle.device.specs.Setters.{withCycle, withGuard, withRegs}
+use Rattle.device.specs.Registers.{oscon}
+use Rattle.device.specs.Lines.{changed}
+use Rattle.device.specs.Oscillator.{oscillatorTick}
+use Rattle.device.specs.Watchdog.{watchdogTick}
+use Rattle.device.specs.Clock.{timeOf, due, calendarTick}
+use Rattle.device.specs.Alarm.{alarmed}
+use Rattle.device.specs.World.{World, world, eepromAfter, idAfter, protectionAfter}
+
+-- the cycle with k ticks left
+abbrev pub withLeft : Device → ℕ → Device
+withLeft d k = withCycle d (record { target = d .cycle .target; left = k })
+
+-- "at the 164th the bytes change and WEL clears"; a STATUS cycle changes the protection
+abbrev pub cycleEnded : Device → Device
+cycleEnded d =
+    withGuard (withLeft d 0)
+    (record { wel = false; protection = protectionAfter 255 (d .guard .protection) (d .cycle .target); lock = d .guard .lock })
+
+-- the write cycle's part, of the record; a countdown of 0 is no cycle
+unfoldable pub cycleDevice : Device → Device
+cycleDevice d =
+    pick (eqb (d .cycle .left) 0) d (pick (eqb (d .cycle .left) 1) (cycleEnded d) (withLeft d (d .cycle .left - 1)))
+
+-- the write cycle's part, of the record and both memories
+unfoldable pub cycleTick : World → World
+cycleTick w =
+    let last : Bool = eqb (w .device .cycle .left) 1 in
+    world (cycleDevice (w .device))
+    (pick last (eepromAfter (w .device .load) 255 (w .eeprom) (w .device .cycle .target)) (w .eeprom))
+    (pick last (idAfter (w .device .load) 255 (w .id) (w .device .cycle .target)) (w .id))
+
+-- the alarms' part, where the hundredths advanced in d
+abbrev pub alarmTick : Bool → Device → Device → Device
+alarmTick counted d after =
+    withRegs after (pick (due counted d) (alarmed (advanced (timeOf (d .regs))) (after .regs)) (after .regs))
+
+-- oscillator, watchdog, calendar, alarms; a tick counts if OSCON was set before it
+unfoldable pub clockwork : Bool → Device → Device
+clockwork boots d =
+    let counted : Bool = oscon (d .counters) in
+    let w : Device = watchdogTick counted (oscillatorTick boots d) in
+    alarmTick counted w (calendarTick counted w)
+
+-- "VBATEN (04h bit 3) set: .. ticks count; clear: .. nothing counts", with power off
+abbrev pub alive : Device → Bool
+alive d = d .power || bit (getD (d .regs) dayAt 0) 3
+
+unfoldable pub tick : Bool → World → World
+tick boots w =
+    let c : World = cycleTick w in
+    pick (alive (w .device)) (world (clockwork boots (c .device)) (c .eeprom) (c .id)) w
+
+-- the record's part of a tick: it needs no memory
+unfoldable pub deviceTick : Bool → Device → Device
+deviceTick boots d = pick (alive d) (clockwork boots (cycleDevice d)) d
+
+pub record Waited : Type 0 where
+  pub used : ℕ
+  pub after : World
+
+abbrev pub plus : ℕ → Waited → Waited
+plus k r = record { used = k + r .used; after = r .after }
+
+-- "A wait stops after the first tick that changed IRQ, WDO or WIP, or after n; it reports the ticks used."
+unfoldable pub waited : Bool → ℕ → World → Waited
+waited boots zero w = record { used = 0; after = w }
+waited boots (suc n) w =
+    let t : World = tick boots w in
+    let rest : Waited = plus 1 (waited boots n t) in
+    pick (changed (w .device) (t .device)) (record { used = 1; after = t }) rest

@@ -1,0 +1,80 @@
+// The divider, the calendar and the alarms of a tick.
+use crate::registers::SECONDS;
+use calendar::Time;
+use record::Device;
+ghost use mathlib.Core.Path.{_≡_};
+ghost use Prim.Native.Nat.{_<_};
+ghost use Rattle.device.specs.Clock.{timeOf, withTime, hundredthDue, dividerTick, calendarTick};
+ghost use Rattle.device.specs.Tick.{alarmTick};
+
+fn time_of(regs: [u8; 32]) -> Time
+    ensures { λ r. ⌜ r ≡ timeOf regs ⌝ }
+{
+    Time {
+        hundredths: regs[0x00],
+        seconds: regs[0x01],
+        minutes: regs[0x02],
+        hours: regs[0x03],
+        day: regs[0x04],
+        date: regs[0x05],
+        month: regs[0x06],
+        year: regs[0x07],
+    }
+}
+
+fn with_time(regs: [u8; 32], t: Time) -> [u8; 32]
+    ensures { λ r. ⌜ r ≡ withTime regs t ⌝ }
+{
+    let mut next = regs;
+    next[0x00] = t.hundredths;
+    next[0x01] = t.seconds;
+    next[0x02] = t.minutes;
+    next[0x03] = t.hours;
+    next[0x04] = t.day;
+    next[0x05] = t.date;
+    next[0x06] = t.month;
+    next[0x07] = t.year;
+    next
+}
+
+// The hundredths advance where floor(100 s / 32768) grows.
+fn hundredth_due(s: u16) -> bool
+    ensures { λ r. ⌜ r ≡ hundredthDue s ⌝ }
+{
+    let n = s as u32;
+    100 * n / 32768 < 100 * (n + 1) / 32768
+}
+
+fn divider_tick(runs: bool, d: Device) -> Device
+    ensures { λ r. ⌜ r ≡ dividerTick runs d ⌝ }
+{
+    if runs {
+        let mut counters = d.counters;
+        counters.divider = ((counters.divider as u32 + 1) % 32768) as u16;
+        let mut next = d;
+        next.counters = counters;
+        return next;
+    }
+    d
+}
+
+// Calendar, then alarms over the registers as it left them.
+pub fn clock_tick(counted: bool, d: Device) -> Device
+    ensures { λ r. ⌜ r ≡ alarmTick counted d (calendarTick counted d) ⌝ }
+{
+    let c = d.counters;
+    let runs = counted & (d.regs[SECONDS] / 128 % 2 == 1);
+    let due = runs & hundredth_due(c.divider);
+    let moved = divider_tick(runs, d);
+    if due {
+        let old = d.regs;
+        let a = calendar::advance(time_of(old));
+        let time = a.time;
+        let stepped = with_time(old, time);
+        let regs = crate::alarm::alarms(a, stepped);
+        let mut next = moved;
+        next.regs = regs;
+        return next;
+    }
+    moved
+}

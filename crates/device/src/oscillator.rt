@@ -1,0 +1,22 @@
+// The oscillator's part of a tick.
+use crate::registers::SECONDS;
+use record::Device;
+use record::range::STARTUP_TICKS;
+ghost use mathlib.Core.Path.{_≡_};
+ghost use Rattle.device.specs.Oscillator.{oscillatorTick};
+
+// The start-up count goes up to 32 while the oscillator is asked to run.
+pub fn oscillator_tick(boots: bool, d: Device) -> Device
+    ensures { λ r. ⌜ r ≡ oscillatorTick boots d ⌝ }
+{
+    let c = d.counters;
+    let asked = boots | (d.regs[SECONDS] / 128 % 2 == 1);
+    if asked & (c.startup < STARTUP_TICKS) {
+        let mut counters = c;
+        counters.startup = c.startup + 1;
+        let mut next = d;
+        next.counters = counters;
+        return next;
+    }
+    d
+}

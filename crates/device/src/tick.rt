@@ -1,0 +1,93 @@
+// One tick of the record.
+use crate::registers::DAY;
+use record::Cycle;
+use record::Device;
+use record::Guard;
+use record::Protection;
+use record::Target;
+ghost use mathlib.Core.Path.{_≡_};
+ghost use Rattle.device.specs.World.{protectionAfter};
+ghost use Rattle.device.specs.Tick.{withLeft, cycleEnded, cycleDevice, clockwork, deviceTick};
+
+// The protection that a cycle leaves: a STATUS cycle goes by bit 0 of the mask.
+pub fn protection_after(mask: u8, old: Protection, target: Target) -> Protection
+    ensures { λ r. ⌜ r ≡ protectionAfter mask old target ⌝ }
+{
+    match target {
+        Target::Eeprom(_) => old,
+        Target::Id(_) => old,
+        Target::Status(p) => {
+            if mask % 2 == 1 {
+                return p;
+            }
+            old
+        }
+    }
+}
+
+fn with_left(d: Device, left: u8) -> Device
+    ensures { λ r. ⌜ r ≡ withLeft d left ⌝ }
+{
+    let old = d.cycle;
+    let target = old.target;
+    let cycle = Cycle { target, left };
+    let mut next = d;
+    next.cycle = cycle;
+    next
+}
+
+// The cycle's last tick: WEL clears, and a STATUS cycle changes the protection.
+fn cycle_ended(d: Device) -> Device
+    ensures { λ r. ⌜ r ≡ cycleEnded d ⌝ }
+{
+    let g = d.guard;
+    let old = g.protection;
+    let y = d.cycle;
+    let target = y.target;
+    let protection = protection_after(255, old, target);
+    let lock = g.lock;
+    let guard = Guard {
+        wel: false,
+        protection,
+        lock,
+    };
+    let mut next = with_left(d, 0);
+    next.guard = guard;
+    next
+}
+
+fn cycle_tick(d: Device) -> Device
+    ensures { λ r. ⌜ r ≡ cycleDevice d ⌝ }
+{
+    let y = d.cycle;
+    let left = y.left;
+    if left == 0 {
+        return d;
+    }
+    if left == 1 {
+        return cycle_ended(d);
+    }
+    with_left(d, left - 1)
+}
+
+// Oscillator, watchdog, calendar, alarms.
+fn clockwork_tick(boots: bool, d: Device) -> Device
+    ensures { λ r. ⌜ r ≡ clockwork boots d ⌝ }
+{
+    let c = d.counters;
+    let counted = c.startup == record::range::STARTUP_TICKS;
+    let asked = crate::oscillator::oscillator_tick(boots, d);
+    let watched = crate::watchdog::watchdog_tick(counted, asked);
+    crate::clock::clock_tick(counted, watched)
+}
+
+// With power off and VBATEN clear nothing counts.
+pub fn device_tick(boots: bool, d: Device) -> Device
+    ensures { λ r. ⌜ r ≡ deviceTick boots d ⌝ }
+{
+    let alive = d.power | (d.regs[DAY] / 8 % 2 == 1);
+    if alive {
+        return clockwork_tick(boots, cycle_tick(d));
+    }
+    d
+}
