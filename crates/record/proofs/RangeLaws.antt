@@ -22,7 +22,7 @@ use Rattle.record.specs.declared.Stage.the-variants.{Idle, Opened, Unhea
 use Rattle.record.specs.declared.Target.{Target}
 use Rattle.record.specs.declared.Target.the-variants.{Eeprom, Id, Status}
 use Rattle.record.specs.Part.{isPart, sizeOf, bootsOf}
-use Rattle.record.specs.Registers.{secondsAt}
+use Rattle.record.specs.Registers.{secondsAt, cycleTicks, startupTicks, longPulse, delayTicks}
 use Rattle.record.specs.Fresh.{fresh, freshRegs}
 use Rattle.record.specs.Range.{selected, heardUnderWip, foreignToWip, idAt, idIn, eepromAt, eepromIn, dividerAbove, startupAbove, countdownAbove, pulseAbove, delayAbove, watchdogPast, offsetAbove, idPointerAbove, eepromPointerPast, insideMask, bitOutside, startupStopped, busyWithoutPower, foreignFrame, countersOut, frameOut, outOfRange}
 use Rattle.record.specs.InRange.{InRange}
@@ -74,10 +74,10 @@ in-range part d e =
     let off : d .power ≡ false → (selected s || ltb 0 (y .left)) ≡ false = λ o. other-fails (m .4) (ap not o) in
     record {
       divider = omega (arith, ltb-false 32767 (c .divider) (n .0));
-      startup = ltb-false 32 (c .startup) (n .1);
-      countdown = ltb-false 164 (y .left) (m .0);
-      pulse = ltb-false 4096 (c .pulse) (n .2);
-      delay = ltb-false 2097152 (c .delay) (n .3);
+      startup = ltb-false startupTicks (c .startup) (n .1);
+      countdown = ltb-false cycleTicks (y .left) (m .0);
+      pulse = ltb-false longPulse (c .pulse) (n .2);
+      delay = ltb-false delayTicks (c .delay) (n .3);
       watchdog = leb-false _ (c .watchdog) (n .4);
       offset = omega (arith, ltb-false 7 (d .load .next) (m .1));
       frameId = omega (arith, ltb-false 15 (idAt s) (neither-left (ltb 15 (idAt s)) (ltb 15 (idIn (y .target))) (m .2)));
@@ -282,9 +282,9 @@ counts-row part d e =
     let t = not (bit (getD (d .regs) secondsAt 0) 7) in
     one-of-six (dividerAbove c) (startupAbove c) (pulseAbove c) (delayAbove c) (watchdogPast (d .regs) c) (startupStopped (bootsOf part) (d .regs) c) e
     (λ h. divider (ltb-true 32767 (c .divider) h))
-    (λ h. startup (ltb-true 32 (c .startup) h))
-    (λ h. pulse (ltb-true 4096 (c .pulse) h))
-    (λ h. delay (ltb-true 2097152 (c .delay) h))
+    (λ h. startup (omega (arith, ltb-true startupTicks (c .startup) h)))
+    (λ h. pulse (omega (arith, ltb-true longPulse (c .pulse) h)))
+    (λ h. delay (omega (arith, ltb-true delayTicks (c .delay) h)))
     (λ h. watchdog (leb-true _ (c .watchdog) h))
     (λ h.
     let l = both-left (w && t) (ltb 0 (c .startup)) h in
@@ -299,7 +299,7 @@ frames-row part d e =
     let s = d .frame .stage in
     let size = sizeOf part in
     one-of-six (countdownAbove y) (offsetAbove (d .load)) (idPointerAbove s y) (eepromPointerPast size s y) (busyWithoutPower (d .power) s y) (foreignFrame s y) e
-    (λ h. countdown (ltb-true 164 (y .left) h))
+    (λ h. countdown (omega (arith, ltb-true cycleTicks (y .left) h)))
     (λ h. offset (ltb-true 7 (d .load .next) h))
     (λ h.
     let p = ⊎-elim (λ l. id-pointer d s refl (ltb-true 15 (idAt s) l)) (λ l. id-target d (y .target) refl (ltb-true 15 (idIn (y .target)) l)) (either (ltb 15 (idAt s)) (ltb 15 (idIn (y .target))) h) in

@@ -18,11 +18,16 @@ use Rattle.record.specs.declared.Act.the-variants.{Select, Byte, End, Wa
 use Rattle.record.specs.declared.Stage.{Stage}
 use Rattle.record.specs.declared.Stage.the-variants.{Idle, Opened}
 use Rattle.record.specs.Part.{isPart, sizeOf, idSize}
+use Rattle.record.specs.Registers.{waitLimit}
 use Rattle.record.specs.Fresh.{fresh}
 use Rattle.record.specs.Range.{selected, countersOut, frameOut, bitOutside, outOfRange}
 use Rattle.record.specs.Refusal.{wrongLength, wrongNumber, wrongPower, wrongSelect, refusalOf}
 use Rattle.record.specs.Rows.{PartRow, LengthRow, RangeRow, NumberRow, leftover, wait, byte, mask, select, up, PowerRow, select-off, byte-off, end-off, cut-off, up-on, SelectedRow, select-again, NotSelectedRow, byte-alone, end-alone, Row, table, First, Answered}
 use Rattle.record.proofs.RangeLaws.{idle, not-idle, range-row}
+
+-- the parts' lengths in bytes: 1 Kbit, 2 Kbit, 1 Kbit, 2 Kbit
+pub sizes : (sizeOf 1 ≡ 128) × (sizeOf 2 ≡ 256) × (sizeOf 3 ≡ 128) × (sizeOf 4 ≡ 256)
+sizes = (refl, refl, refl, refl)
 
 -- Each row is what its test says.
 
@@ -54,13 +59,13 @@ number-told : (act : Act) (n : ℕ) → wrongNumber act n ≡ true → NumberRow
 number-told Select n e = select (eqb-false n 0 (not-true (eqb n 0) e))
 number-told Byte n e = byte (ltb-true 255 n e)
 number-told End n e = leftover (ltb-true 7 n e)
-number-told Wait n e = wait (ltb-true 16777216 n e)
+number-told Wait n e = wait {n = n} (omega (arith, ltb-true waitLimit n e))
 number-told Cut n e = mask (ltb-true 255 n e)
 number-told Up n e = up (eqb-false n 0 (not-true (eqb n 0) e))
 
 number-given : {act : Act} {n : ℕ} → NumberRow act n → wrongNumber act n ≡ true
 number-given (leftover h) = lt-ltb _ _ h
-number-given (wait h) = lt-ltb _ _ h
+number-given (wait {n} h) = lt-ltb waitLimit n (omega arith)
 number-given (byte h) = lt-ltb _ _ h
 number-given (mask h) = lt-ltb _ _ h
 number-given (select h) = ap not (ne-eqb _ 0 h)
