@@ -1,10 +1,26 @@
--- Laws of the calendar's part of a tick.
+-- Laws of the calendar's and the alarms' parts of a tick: what they do to the registers.
 -- Assumes nothing.
-use mathlib.Core.Path.{_≡_, refl, _∙_}
-use mathlib.Core.Bool.{Bool, true, false}
+use mathlib.Core.Path.{_≡_, refl, sym, subst, _∙_}
+use mathlib.Core.Bool.{Bool, true, false, _&&_}
+use mathlib.Core.Logic.{_⊎_, inl, inr, ⊎-elim, _≢_}
+use mathlib.Core.List.{List, [], _∷_}
+use Prim.Native.Nat.{ℕ, _<_, _≤_}
+use native.Mathlib.Omega.{arith}
+use lib.Bits.{bitOr}
+use lib.ListN.{length, getD, set, length-set}
+use Rattle.base.specs.Words.{pick, bit}
+use Rattle.base.proofs.Tests.{pick-case}
+use Rattle.base.proofs.StoreLaws.{set-case}
+use Rattle.calendar.specs.declared.Time.{Time}
+use Rattle.calendar.specs.declared.Advanced.{Advanced}
+use Rattle.calendar.specs.Time.{advanced}
+use Rattle.calendar.proofs.TimeLaws.{st-stays, vbaten-stays}
 use Rattle.record.specs.declared.Device.{Device}
+use Rattle.record.specs.Registers.{secondsAt, dayAt}
 use Rattle.device.specs.Setters.{withRegs}
-use Rattle.device.specs.Clock.{running, due, dividerTick, calendarTick}
+use Rattle.device.specs.Lines.{active, alarm0At, alarm1At}
+use Rattle.device.specs.Alarm.{raise, match0, match1, alarmed}
+use Rattle.device.specs.Clock.{timeOf, withTime, running, due, dividerTick, calendarTick}
 use Rattle.device.specs.Tick.{alarmTick}
 
 -- the divider's step leaves the registers
@@ -17,3 +33,163 @@ pub clock-still :
     (counted : Bool) (d : Device) → due counted d ≡ false → dividerTick (running counted d) d ≡ alarmTick counted d (calendarTick counted d)
 unfolding calendarTick
 clock-still counted d e = divider-regs (running counted d) d ∙ simp e
+
+-- what holds of each place of a list holds of each after a store of a value of which it holds there
+set-each :
+    (P : ℕ → ℕ → Type 0) (l : List ℕ) (i v : ℕ) → P i v → ((k : ℕ) → P k (getD l k 0)) → (k : ℕ) → P k (getD (set l i v) k 0)
+set-each P l i v p q k = set-case (P k) l i k v (λ e. subst (λ (j : ℕ). P j v) (sym e) p) (q k)
+
+-- What holds of each register, and of each new time byte at its register, holds of each register with the new time.
+pub record TimeEach (P : ℕ → ℕ → Type 0) (t : Time) : Type 0 where
+  pub hundredths : P 0x00 (t .hundredths)
+  pub seconds : P 0x01 (t .seconds)
+  pub minutes : P 0x02 (t .minutes)
+  pub hours : P 0x03 (t .hours)
+  pub day : P 0x04 (t .day)
+  pub date : P 0x05 (t .date)
+  pub month : P 0x06 (t .month)
+  pub year : P 0x07 (t .year)
+
+pub with-time-each :
+    (P : ℕ → ℕ → Type 0) (regs : List ℕ) (t : Time) → TimeEach P t → ((k : ℕ) → P k (getD regs k 0))
+    → (k : ℕ) → P k (getD (withTime regs t) k 0)
+unfolding withTime
+with-time-each P regs t e q =
+    let l1 : List ℕ = set regs 0x00 (t .hundredths) in
+    let l2 : List ℕ = set l1 0x01 (t .seconds) in
+    let l3 : List ℕ = set l2 0x02 (t .minutes) in
+    let l4 : List ℕ = set l3 0x03 (t .hours) in
+    let l5 : List ℕ = set l4 0x04 (t .day) in
+    let l6 : List ℕ = set l5 0x05 (t .date) in
+    let l7 : List ℕ = set l6 0x06 (t .month) in
+    set-each P l7 0x07 (t .year) (e .year)
+    (set-each P l6 0x06 (t .month) (e .month)
+    (set-each P l5 0x05 (t .date) (e .date)
+    (set-each P l4 0x04 (t .day) (e .day)
+    (set-each P l3 0x03 (t .hours) (e .hours)
+    (set-each P l2 0x02 (t .minutes) (e .minutes)
+    (set-each P l1 0x01 (t .seconds) (e .seconds)
+    (set-each P regs 0x00 (t .hundredths) (e .hundredths) q)))))))
+
+-- the same of a flag that may be set, and of both alarms
+pub raise-each :
+    (P : ℕ → ℕ → Type 0) (go : Bool) (regs : List ℕ) (a : ℕ) → ((v : ℕ) → P a v → P a (bitOr v 0x08)) → ((k : ℕ) → P k (getD regs k 0))
+    → (k : ℕ) → P k (getD (raise go regs a) k 0)
+raise-each P true regs a f q = set-each P regs a (bitOr (getD regs a 0) 0x08) (f (getD regs a 0) (q a)) q
+raise-each P false regs a f q = q
+
+pub alarmed-each :
+    (P : ℕ → ℕ → Type 0) (t : Advanced) (regs : List ℕ)
+    → ((v : ℕ) → P alarm0At v → P alarm0At (bitOr v 0x08))
+    → ((v : ℕ) → P alarm1At v → P alarm1At (bitOr v 0x08))
+    → ((k : ℕ) → P k (getD regs k 0))
+    → (k : ℕ) → P k (getD (alarmed t regs) k 0)
+unfolding alarmed
+alarmed-each P t regs f g q =
+    let go0 : Bool = active regs 4 && match0 t regs in
+    let go1 : Bool = active regs 5 && match1 t regs in
+    raise-each P go1 (raise go0 regs alarm0At) alarm1At g (raise-each P go0 regs alarm0At f q)
+
+-- the same of both parts
+pub clock-each :
+    (P : ℕ → ℕ → Type 0) (counted : Bool) (d : Device)
+    → TimeEach P (advanced (timeOf (d .regs)) .time)
+    → ((v : ℕ) → P alarm0At v → P alarm0At (bitOr v 0x08))
+    → ((v : ℕ) → P alarm1At v → P alarm1At (bitOr v 0x08))
+    → ((k : ℕ) → P k (getD (d .regs) k 0))
+    → (k : ℕ) → P k (getD (alarmTick counted d (calendarTick counted d) .regs) k 0)
+unfolding calendarTick
+clock-each P counted d e f g q =
+    let regs : List ℕ = pick (due counted d) (withTime (d .regs) (advanced (timeOf (d .regs)) .time)) (d .regs) in
+    let p : (k : ℕ) → P k (getD regs k 0) =
+    pick-case (λ (l : List ℕ). (k : ℕ) → P k (getD l k 0)) (due counted d)
+    (with-time-each P (d .regs) (advanced (timeOf (d .regs)) .time) e q) q
+    in
+    pick-case (λ (l : List ℕ). (k : ℕ) → P k (getD l k 0)) (due counted d)
+    (alarmed-each P (advanced (timeOf (d .regs))) regs f g p) p
+
+-- Of one register: what holds of it, of the new time byte that goes there and of an alarm's register with its flag set, holds of it
+-- after the tick.
+abbrev pub timeBytes : Time → List ℕ
+timeBytes t =
+    t .hundredths ∷ t .seconds ∷ t .minutes ∷ t .hours ∷ t .day ∷ t .date ∷ t .month ∷ t .year ∷ []
+
+pub clock-register :
+    (Q : ℕ → Type 0) (counted : Bool) (d : Device) (k : ℕ)
+    → (k < 8 → Q (getD (timeBytes (advanced (timeOf (d .regs)) .time)) k 0))
+    → ((k ≡ alarm0At) ⊎ (k ≡ alarm1At) → (v : ℕ) → Q v → Q (bitOr v 0x08))
+    → Q (getD (d .regs) k 0)
+    → Q (getD (alarmTick counted d (calendarTick counted d) .regs) k 0)
+clock-register Q counted d k p f q =
+    let t : Time = advanced (timeOf (d .regs)) .time in
+    let there : (j : ℕ) → j < 8 → j ≡ k → Q (getD (timeBytes t) j 0) =
+    λ j h e. subst (λ (i : ℕ). Q (getD (timeBytes t) i 0)) (sym e) (p (omega arith))
+    in
+    clock-each (λ j v. j ≡ k → Q v) counted d
+    (record {
+      hundredths = there 0x00 (omega arith);
+      seconds = there 0x01 (omega arith);
+      minutes = there 0x02 (omega arith);
+      hours = there 0x03 (omega arith);
+      day = there 0x04 (omega arith);
+      date = there 0x05 (omega arith);
+      month = there 0x06 (omega arith);
+      year = there 0x07 (omega arith);
+    })
+    (λ v h e. f (inl (sym e)) v (h e))
+    (λ v h e. f (inr (sym e)) v (h e))
+    (λ j e. subst (λ (i : ℕ). Q (getD (d .regs) i 0)) (sym e) q)
+    k refl
+
+-- a register that is no time register and has no alarm's flag stays
+pub clock-other :
+    (counted : Bool) (d : Device) (k : ℕ) → 8 ≤ k → k ≢ alarm0At → k ≢ alarm1At
+    → getD (alarmTick counted d (calendarTick counted d) .regs) k 0 ≡ getD (d .regs) k 0
+clock-other counted d k h a b =
+    clock-register (λ (v : ℕ). v ≡ getD (d .regs) k 0) counted d k (λ l. absurd (omega arith)) (λ e. absurd (⊎-elim a b e)) refl
+
+-- ST and VBATEN stay
+pub clock-st :
+    (counted : Bool) (d : Device)
+    → bit (getD (alarmTick counted d (calendarTick counted d) .regs) secondsAt 0) 7 ≡ bit (getD (d .regs) secondsAt 0) 7
+clock-st counted d =
+    clock-register (λ (v : ℕ). bit v 7 ≡ bit (getD (d .regs) secondsAt 0) 7) counted d secondsAt
+    (λ l. st-stays (timeOf (d .regs)))
+    (λ e. absurd (⊎-elim (λ z. omega arith) (λ z. omega arith) e))
+    refl
+
+pub clock-vbaten :
+    (counted : Bool) (d : Device)
+    → bit (getD (alarmTick counted d (calendarTick counted d) .regs) dayAt 0) 3 ≡ bit (getD (d .regs) dayAt 0) 3
+clock-vbaten counted d =
+    clock-register (λ (v : ℕ). bit v 3 ≡ bit (getD (d .regs) dayAt 0) 3) counted d dayAt
+    (λ l. vbaten-stays (timeOf (d .regs)))
+    (λ e. absurd (⊎-elim (λ z. omega arith) (λ z. omega arith) e))
+    refl
+
+-- the number of registers
+with-time-length : (regs : List ℕ) (t : Time) → length (withTime regs t) ≡ length regs
+unfolding withTime
+with-time-length regs t = simp length-set
+
+raise-length : (go : Bool) (regs : List ℕ) (a : ℕ) → length (raise go regs a) ≡ length regs
+raise-length true regs a = length-set regs a (bitOr (getD regs a 0) 0x08)
+raise-length false regs a = refl
+
+alarmed-length : (t : Advanced) (regs : List ℕ) → length (alarmed t regs) ≡ length regs
+unfolding alarmed
+alarmed-length t regs =
+    let go0 : Bool = active regs 4 && match0 t regs in
+    raise-length (active regs 5 && match1 t regs) (raise go0 regs alarm0At) alarm1At ∙ raise-length go0 regs alarm0At
+
+pub clock-regs-length :
+    (counted : Bool) (d : Device) → length (alarmTick counted d (calendarTick counted d) .regs) ≡ length (d .regs)
+unfolding calendarTick
+clock-regs-length counted d =
+    let regs : List ℕ = pick (due counted d) (withTime (d .regs) (advanced (timeOf (d .regs)) .time)) (d .regs) in
+    let p : length regs ≡ length (d .regs) =
+    pick-case (λ (l : List ℕ). length l ≡ length (d .regs)) (due counted d)
+    (with-time-length (d .regs) (advanced (timeOf (d .regs)) .time)) refl
+    in
+    pick-case (λ (l : List ℕ). length l ≡ length (d .regs)) (due counted d)
+    (alarmed-length (advanced (timeOf (d .regs))) regs ∙ p) p

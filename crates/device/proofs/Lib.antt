@@ -2,3 +2,7 @@ pub mod ClockLaws
 pub mod LineLaws
 pub mod WatchdogLaws
 pub mod RegisterLaws
+pub mod KeepLaws
+pub mod TickLaws
+pub mod WaitLaws
+pub mod TickRangeLaws

@@ -1,45 +1,44 @@
 -- What WRITE, the oscillator and the watchdog keep of a record in range: the facts of `InRange` on registers and counts. WRITE's
 -- lengths, and what it leaves alone, stand here too.
 -- Assumes nothing.
-use Prim.Native.Nat.{ℕ, _+_, _-_, _<_, _≤_}
+use Prim.Native.Nat.{ℕ, _+_, _<_, _≤_}
 use native.Mathlib.Omega.{arith}
-use mathlib.Core.Path.{_≡_, refl, sym, ap, subst, _∙_}
-use mathlib.Core.Bool.{Bool, true, false, not, _&&_, _||_}
+use mathlib.Core.Path.{_≡_, refl, sym, subst}
+use mathlib.Core.Bool.{Bool, false, not, _&&_}
 use mathlib.Core.List.{List}
 use mathlib.Core.Logic.{_≢_}
-use borrow.Author.Tests.{ltb-true, ltb-false, eqb-true, eqb-false, not-false}
+use borrow.Author.Tests.{ltb-true, eqb-true, eqb-false}
 use lib.Bits.{bitAnd, bitOr, and-le-r}
 use lib.Dec.{ltb, eqb}
 use lib.ListN.{length, getD, set, length-set}
-use Rattle.base.specs.Words.{pick, bit, every}
+use Rattle.base.specs.Words.{bit, every}
 use Rattle.base.proofs.Tests.{pick-case, pick-when, both-left, both-right, neither, true-false}
 use Rattle.base.proofs.Every.{same-below}
 use Rattle.base.proofs.BitLaws.{and-inside}
 use Rattle.base.proofs.StoreLaws.{set-case}
 use Rattle.record.specs.declared.Device.{Device}
 use Rattle.record.specs.declared.Counters.{Counters}
-use Rattle.record.specs.declared.Guard.{Guard}
 use Rattle.record.specs.declared.Frame.{Frame}
 use Rattle.record.specs.declared.Load.{Load}
 use Rattle.record.specs.declared.Cycle.{Cycle}
 use Rattle.record.specs.declared.ClockAddress.{ClockAddress}
 use Rattle.record.specs.Part.{sizeOf, bootsOf}
-use Rattle.record.specs.Registers.{secondsAt, watchdogAt, writable, kept, periodOf, cycleTicks, startupTicks, dividerTicks, longPulse, shortPulse, delayTicks}
+use Rattle.record.specs.Registers.{secondsAt, watchdogAt, writable, kept, periodOf, cycleTicks, startupTicks, dividerTicks, longPulse, delayTicks}
 use Rattle.record.specs.Range.{selected, foreignToWip, idAt, idIn, eepromAt, eepromIn}
 use Rattle.record.specs.InRange.{InRange}
 use Rattle.device.specs.Registers.{afterWrite, writeClock}
 use Rattle.device.specs.Oscillator.{asked, oscillatorTick}
-use Rattle.device.specs.Watchdog.{counting, pulseTick, delayTick, countTick, timeOut, countedTick, watchdogTick}
+use Rattle.device.specs.Watchdog.{counting, pulseTick, timeOut, countedTick, watchdogTick}
 use Rattle.device.proofs.WatchdogLaws.{period-least}
 
 -- the rows of `InRange` that read registers and counts alone, each of a value
-abbrev Paced : Counters → ℕ → Type 0
+abbrev pub Paced : Counters → ℕ → Type 0
 Paced c v = c .watchdog < periodOf v
 
-abbrev Halted : Bool → Counters → ℕ → Type 0
+abbrev pub Halted : Bool → Counters → ℕ → Type 0
 Halted boots c v = boots ≡ false → bit v 7 ≡ false → c .startup ≡ 0
 
-abbrev Inside : ℕ → ℕ → Type 0
+abbrev pub Inside : ℕ → ℕ → Type 0
 Inside k v = bitAnd v (getD kept k 0) ≡ v
 
 pub record ClockIn (boots : Bool) (regs : List ℕ) (c : Counters) : Type 0 where
@@ -226,6 +225,12 @@ oscillator-clock-in boots d r =
     })
     (λ t. r)
 
+-- it leaves the registers
+pub oscillator-regs : (boots : Bool) (d : Device) → oscillatorTick boots d .regs ≡ d .regs
+unfolding oscillatorTick
+oscillator-regs boots d =
+    pick-case (λ (e : Device). e .regs ≡ d .regs) (asked boots (d .regs) && ltb (d .counters .startup) startupTicks) refl refl
+
 -- the watchdog: pulse, delay, count, time-out
 pulse-in : (boots : Bool) (d : Device) → ClockOf boots d → ClockOf boots (pulseTick d)
 pulse-in boots d r =
@@ -290,3 +295,13 @@ unfolding watchdogTick
 watchdog-clock-in boots counted d r =
     let p = pulse-in boots d r in
     pick-case (ClockOf boots) (counting counted (getD (d .regs) watchdogAt 0)) (counted-in boots (pulseTick d) p) p
+
+pub watchdog-regs-length : (counted : Bool) (d : Device) → length (watchdogTick counted d .regs) ≡ length (d .regs)
+unfolding watchdogTick
+watchdog-regs-length counted d =
+    let same : Device → Type 0 = λ e. length (e .regs) ≡ length (d .regs) in
+    pick-case same (counting counted (getD (d .regs) watchdogAt 0))
+    (pick-case same (ltb 0 (d .counters .delay)) refl
+    (pick-case same (ltb (d .counters .watchdog + 1) (periodOf (getD (d .regs) watchdogAt 0))) refl
+    (length-set (d .regs) watchdogAt (bitOr (getD (d .regs) watchdogAt 0) 0x40))))
+    refl

@@ -1,0 +1,183 @@
+-- Laws of one tick: what it does to the write cycle, the guard and both memories, and what it leaves alone. A tick's record is the
+-- record's tick.
+-- Assumes nothing.
+use mathlib.Core.Path.{_≡_, refl, ap, _∙_}
+use mathlib.Core.Bool.{Bool, false, _||_}
+use mathlib.Core.List.{List}
+use Prim.Native.Nat.{ℕ, _+_, _-_}
+use native.Mathlib.Omega.{arith}
+use borrow.Author.Tests.{eqb-true, ne-eqb}
+use lib.Dec.{ltb, eqb}
+use lib.ListN.{getD}
+use Rattle.base.specs.Words.{pick, bit}
+use Rattle.base.proofs.Tests.{by-cases, yes, no, pick-case, pick-when, pick-map}
+use Rattle.base.proofs.StoreLaws.{set-case}
+use Rattle.record.specs.declared.Device.{Device}
+use Rattle.record.specs.declared.Cycle.{Cycle}
+use Rattle.record.specs.declared.Guard.{Guard}
+use Rattle.record.specs.Registers.{dayAt, watchdogAt, periodOf}
+use Rattle.device.specs.Setters.{withGuard}
+use Rattle.device.specs.Registers.{oscon}
+use Rattle.device.specs.Oscillator.{oscillatorTick}
+use Rattle.device.specs.Watchdog.{counting, watchdogTick}
+use Rattle.device.specs.World.{World, eepromAfter, idAfter, protectionAfter}
+use Rattle.device.specs.Tick.{withLeft, cycleDevice, cycleTick, clockwork, alive, tick, deviceTick, ends}
+use Rattle.device.proofs.ClockLaws.{clock-vbaten}
+use Rattle.device.proofs.RegisterLaws.{oscillator-regs}
+use Rattle.device.proofs.KeepLaws.{ClockOnly, clockwork-keeps}
+
+-- the record's part of a tick
+pub tick-device : (boots : Bool) (w : World) → tick boots w .device ≡ deviceTick boots (w .device)
+unfolding tick deviceTick cycleTick
+tick-device boots w = pick-map (λ (x : World). x .device) (alive (w .device)) _ _
+
+-- What the write cycle's part does, where `last` says that the cycle has one tick left.
+pub record CycleStep (last : Bool) (d e : Device) : Type 0 where
+  pub regs : e .regs ≡ d .regs
+  pub counters : e .counters ≡ d .counters
+  pub sram : e .sram ≡ d .sram
+  pub power : e .power ≡ d .power
+  pub frame : e .frame ≡ d .frame
+  pub load : e .load ≡ d .load
+  pub target : e .cycle .target ≡ d .cycle .target
+  pub left : e .cycle .left ≡ d .cycle .left - 1
+  pub wel : e .guard .wel ≡ pick last false (d .guard .wel)
+  pub protection : e .guard .protection ≡ pick last (protectionAfter 255 (d .guard .protection) (d .cycle .target)) (d .guard .protection)
+  pub lock : e .guard .lock ≡ d .guard .lock
+
+step-of :
+    (last : Bool) (d : Device) (g : Guard) (k : ℕ)
+    → k ≡ d .cycle .left - 1
+    → g .wel ≡ pick last false (d .guard .wel)
+    → g .protection ≡ pick last (protectionAfter 255 (d .guard .protection) (d .cycle .target)) (d .guard .protection)
+    → g .lock ≡ d .guard .lock
+    → CycleStep last d (withGuard (withLeft d k) g)
+step-of last d g k left wel protection lock =
+    record {
+      regs = refl;
+      counters = refl;
+      sram = refl;
+      power = refl;
+      frame = refl;
+      load = refl;
+      target = refl;
+      left = left;
+      wel = wel;
+      protection = protection;
+      lock = lock;
+    }
+
+pub cycle-step : (d : Device) → CycleStep (eqb (d .cycle .left) 1) d (cycleDevice d)
+unfolding cycleDevice
+cycle-step d =
+    let left = d .cycle .left in
+    let g = d .guard in
+    pick-when (CycleStep (eqb left 1) d) (eqb left 0)
+    (λ z.
+    let e : left ≡ 0 = eqb-true left 0 z in
+    let o : eqb left 1 ≡ false = ne-eqb left 1 (omega arith) in
+    step-of (eqb left 1) d g left (omega arith) (no _ _ o) (no _ _ o) refl)
+    (λ z.
+    pick-when (CycleStep (eqb left 1) d) (eqb left 1)
+    (λ o.
+    let e : left ≡ 1 = eqb-true left 1 o in
+    step-of (eqb left 1) d (record { wel = false; protection = protectionAfter 255 (g .protection) (d .cycle .target); lock = g .lock }) 0
+    (omega arith) (yes _ _ o) (yes _ _ o) refl)
+    (λ o. step-of (eqb left 1) d g (left - 1) refl (no _ _ o) (no _ _ o) refl))
+
+-- What a tick does to all but registers and counts. A cycle that ends at it clears WEL, and one of STATUS changes the protection.
+pub record Ticked (d e : Device) : Type 0 where
+  pub sram : e .sram ≡ d .sram
+  pub power : e .power ≡ d .power
+  pub frame : e .frame ≡ d .frame
+  pub load : e .load ≡ d .load
+  pub target : e .cycle .target ≡ d .cycle .target
+  pub left : e .cycle .left ≡ pick (alive d) (d .cycle .left - 1) (d .cycle .left)
+  pub wel : e .guard .wel ≡ pick (ends d) false (d .guard .wel)
+  pub protection : e .guard .protection ≡ pick (ends d) (protectionAfter 255 (d .guard .protection) (d .cycle .target)) (d .guard .protection)
+  pub lock : e .guard .lock ≡ d .guard .lock
+
+pub device-ticked : (boots : Bool) (d : Device) → Ticked d (deviceTick boots d)
+unfolding deviceTick
+device-ticked boots d =
+    let s : CycleStep (eqb (d .cycle .left) 1) d (cycleDevice d) = cycle-step d in
+    let k : ClockOnly (cycleDevice d) (clockwork boots (cycleDevice d)) = clockwork-keeps boots (cycleDevice d) in
+    pick-when (Ticked d) (alive d)
+    (λ a.
+    record {
+      sram = k .sram ∙ s .sram;
+      power = k .power ∙ s .power;
+      frame = k .frame ∙ s .frame;
+      load = k .load ∙ s .load;
+      target = ap (λ (y : Cycle). y .target) (k .cycle) ∙ s .target;
+      left = ap (λ (y : Cycle). y .left) (k .cycle) ∙ s .left ∙ simp a;
+      wel = ap (λ (g : Guard). g .wel) (k .guard) ∙ s .wel ∙ simp a;
+      protection = ap (λ (g : Guard). g .protection) (k .guard) ∙ s .protection ∙ simp a;
+      lock = ap (λ (g : Guard). g .lock) (k .guard) ∙ s .lock;
+    })
+    (λ a.
+    record {
+      sram = refl;
+      power = refl;
+      frame = refl;
+      load = refl;
+      target = refl;
+      left = simp a;
+      wel = simp a;
+      protection = simp a;
+      lock = refl;
+    })
+
+pub ticked : (boots : Bool) (w : World) → Ticked (w .device) (tick boots w .device)
+ticked boots w = rw (tick-device boots w) (device-ticked boots (w .device))
+
+-- the memories change where a cycle ends
+pub tick-eeprom :
+    (boots : Bool) (w : World)
+    → tick boots w .eeprom ≡ pick (ends (w .device)) (eepromAfter (w .device .load) 255 (w .eeprom) (w .device .cycle .target)) (w .eeprom)
+unfolding tick cycleTick
+tick-eeprom boots w = by-cases (alive (w .device)) (λ a. simp a) (λ a. simp a)
+
+pub tick-id :
+    (boots : Bool) (w : World)
+    → tick boots w .id ≡ pick (ends (w .device)) (idAfter (w .device .load) 255 (w .id) (w .device .cycle .target)) (w .id)
+unfolding tick cycleTick
+tick-id boots w = by-cases (alive (w .device)) (λ a. simp a) (λ a. simp a)
+
+-- a tick of a chip that is not alive changes nothing
+pub tick-dead : (boots : Bool) (w : World) → alive (w .device) ≡ false → tick boots w ≡ w
+unfolding tick
+tick-dead boots w a = simp a
+
+-- VBATEN stays, and so a chip that is alive is alive after a tick
+watchdog-day : (counted : Bool) (d : Device) → getD (watchdogTick counted d .regs) dayAt 0 ≡ getD (d .regs) dayAt 0
+unfolding watchdogTick
+watchdog-day counted d =
+    let P : Device → Type 0 = λ e. getD (e .regs) dayAt 0 ≡ getD (d .regs) dayAt 0 in
+    pick-case P (counting counted (getD (d .regs) watchdogAt 0))
+    (pick-case P (ltb 0 (d .counters .delay)) refl
+    (pick-case P (ltb (d .counters .watchdog + 1) (periodOf (getD (d .regs) watchdogAt 0))) refl
+    (set-case (λ (v : ℕ). v ≡ getD (d .regs) dayAt 0) (d .regs) watchdogAt dayAt _ (λ e. absurd (omega arith)) refl)))
+    refl
+
+clockwork-vbaten : (boots : Bool) (d : Device) → bit (getD (clockwork boots d .regs) dayAt 0) 3 ≡ bit (getD (d .regs) dayAt 0) 3
+unfolding clockwork
+clockwork-vbaten boots d =
+    let o : Device = oscillatorTick boots d in
+    let c : Bool = oscon (d .counters) in
+    clock-vbaten c (watchdogTick c o)
+    ∙ ap (λ (v : ℕ). bit v 3) (watchdog-day c o ∙ ap (λ (l : List ℕ). getD l dayAt 0) (oscillator-regs boots d))
+
+pub device-alive : (boots : Bool) (d : Device) → alive (deviceTick boots d) ≡ alive d
+unfolding deviceTick
+device-alive boots d =
+    pick-when (λ (e : Device). alive e ≡ alive d) (alive d)
+    (λ a.
+    let s : CycleStep (eqb (d .cycle .left) 1) d (cycleDevice d) = cycle-step d in
+    let k : ClockOnly (cycleDevice d) (clockwork boots (cycleDevice d)) = clockwork-keeps boots (cycleDevice d) in
+    ap (λ (p : Bool). p || bit (getD (clockwork boots (cycleDevice d) .regs) dayAt 0) 3) (k .power ∙ s .power)
+    ∙ ap (λ (b : Bool). d .power || b) (clockwork-vbaten boots (cycleDevice d) ∙ ap (λ (l : List ℕ). bit (getD l dayAt 0) 3) (s .regs)))
+    (λ a. refl)
+
+pub tick-alive : (boots : Bool) (w : World) → alive (tick boots w .device) ≡ alive (w .device)
+tick-alive boots w = ap alive (tick-device boots w) ∙ device-alive boots (w .device)
