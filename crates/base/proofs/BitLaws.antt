@@ -1,13 +1,14 @@
 -- Laws of bits: a mask of one bit tests it, a mask of the lowest bits keeps what is below it, the count of ones is the number of members.
 -- Assumes nothing.
 use mathlib.Core.Path.{_≡_, refl, sym, ap, _∙_}
-use mathlib.Core.Bool.{Bool, true, false, not, Bool·beq, _&&_}
-use Prim.Native.Nat.{ℕ, _-_, _/_, _%_, _<_, _^_, min}
+use mathlib.Core.Bool.{Bool, true, false, Bool·beq, _&&_, _||_}
+use Prim.Native.Nat.{ℕ, _-_, _/_, _%_, _<_, _^_, min, max}
 use native.Mathlib.Omega.{arith}
-use lib.Dec.{T, eqb, ltb}
+use lib.Dec.{eqb, ltb}
 use borrow.Author.Tests.{eqb-true, eq-eqb, ltb-true, lt-ltb}
 use lib.Arith.{bin-ind}
-use lib.Bits.{bitAnd, bitOr, and-step, and-shr}
+use lib.Bits.{bitAnd, bitOr, and-step, and-shr, and-le-l, or-step, or-shr, or-add-and}
+use lib.Pow.{pow-pos}
 use lib.Count.{ones, onesIn}
 use Rattle.base.specs.Words.{every, bit, members}
 use Rattle.base.proofs.Tests.{same→eq, true-T}
@@ -48,3 +49,52 @@ and-assoc =
 -- a number under a mask that lies inside another is inside the other
 pub and-inside : (v w m : ℕ) → bitAnd w m ≡ w → bitAnd (bitAnd v w) m ≡ bitAnd v w
 and-inside v w m e = and-assoc v w m ∙ ap (bitAnd v) e
+
+-- bits of 0 and of a power of two
+pub zero-bit : (k : ℕ) → k < 8 → bit 0 k ≡ false
+unfolding every
+zero-bit k h = same→eq (bit 0 k) false (true-T (Bool·beq (bit 0 k) false) (every-at (λ (n : ℕ). Bool·beq (bit 0 n) false) 8 refl k h))
+
+pub power-bit : (j k : ℕ) → j < 8 → k < 8 → bit (2 ^ j) k ≡ eqb k j
+unfolding every
+power-bit j k hj hk =
+    same→eq (bit (2 ^ j) k) (eqb k j)
+    (true-T (Bool·beq (bit (2 ^ j) k) (eqb k j))
+    (every-at (λ (n : ℕ). Bool·beq (bit (2 ^ j) n) (eqb n j)) 8
+    (every-at (λ (m : ℕ). every (λ (n : ℕ). Bool·beq (bit (2 ^ m) n) (eqb n m)) 8) 8 refl j hj) k hk))
+
+-- of two digits, the larger is 1 where one of them is, and the smaller where both are
+either-one : (x y : ℕ) → x < 2 → y < 2 → eqb (max x y) 1 ≡ eqb x 1 || eqb y 1
+unfolding every
+either-one x y hx hy =
+    same→eq (eqb (max x y) 1) (eqb x 1 || eqb y 1)
+    (true-T (Bool·beq (eqb (max x y) 1) (eqb x 1 || eqb y 1))
+    (every-at (λ (n : ℕ). Bool·beq (eqb (max x n) 1) (eqb x 1 || eqb n 1)) 2
+    (every-at (λ (m : ℕ). every (λ (n : ℕ). Bool·beq (eqb (max m n) 1) (eqb m 1 || eqb n 1)) 2) 2 refl x hx) y hy))
+
+odd-or : (a b : ℕ) → eqb (bitOr a b % 2) 1 ≡ eqb (a % 2) 1 || eqb (b % 2) 1
+odd-or a b =
+    let e : bitOr a b % 2 ≡ max (a % 2) (b % 2) = omega (arith, or-step a b) in
+    ap (λ (n : ℕ). eqb n 1) e ∙ either-one (a % 2) (b % 2) (omega arith) (omega arith)
+
+-- a bit of an or
+pub or-bit : (a b k : ℕ) → bit (bitOr a b) k ≡ bit a k || bit b k
+or-bit a b k = ap (λ (n : ℕ). eqb (n % 2) 1) (or-shr a b k) ∙ odd-or (a / 2 ^ k) (b / 2 ^ k)
+
+-- an or with a power of two is more than 0
+pub or-some : (a j : ℕ) → 0 < bitOr a (2 ^ j)
+or-some a j = omega (arith, or-add-and a (2 ^ j), and-le-l a (2 ^ j), pow-pos j)
+
+both-one : (x y : ℕ) → x < 2 → y < 2 → eqb (min x y) 1 ≡ (eqb x 1 && eqb y 1)
+unfolding every
+both-one x y hx hy =
+    same→eq (eqb (min x y) 1) (eqb x 1 && eqb y 1)
+    (true-T (Bool·beq (eqb (min x y) 1) (eqb x 1 && eqb y 1))
+    (every-at (λ (n : ℕ). Bool·beq (eqb (min x n) 1) (eqb x 1 && eqb n 1)) 2
+    (every-at (λ (m : ℕ). every (λ (n : ℕ). Bool·beq (eqb (min m n) 1) (eqb m 1 && eqb n 1)) 2) 2 refl x hx) y hy))
+
+-- a bit of an and
+pub and-bit : (a b k : ℕ) → bit (bitAnd a b) k ≡ (bit a k && bit b k)
+and-bit a b k =
+    ap (λ (n : ℕ). eqb (n % 2) 1) (and-shr a b k) ∙ ap (λ (n : ℕ). eqb n 1) (low-digit (a / 2 ^ k) (b / 2 ^ k))
+    ∙ both-one (a / 2 ^ k % 2) (b / 2 ^ k % 2) (omega arith) (omega arith)

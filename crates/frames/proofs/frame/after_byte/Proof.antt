@@ -1,0 +1,17 @@
+-- `frames::frame::after_byte` meets its contract.
+-- Assumes nothing.
+use borrow.Author.Needs.{needs}
+use Rattle.frames.specs.Frame.{afterByte}
+use Rattle.frames.proofs.frame.after_byte.Statement.{statement}
+use Rattle.frames.proofs.frame.after_byte.Tie as tie
+
+pub after-byte-spec : {M : Type 1} → statement M
+unfolding afterByte
+after-byte-spec =
+    tie.close
+    (tie.spec
+    (λ c κs. search needs)
+    (λ c κs. search needs)
+    (λ c κs. search needs)
+    (λ c κs. search needs)
+    (λ c. simp (c .written-at .ensures, c .before .load-after .ensures, c .before .before .stage-after .ensures, c .before .before .before .in-progress .ensures)))

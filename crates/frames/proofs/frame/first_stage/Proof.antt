@@ -1,0 +1,13 @@
+-- `frames::frame::first_stage` meets its contract.
+-- Assumes nothing.
+use borrow.Author.Needs.{needs}
+use Rattle.frames.proofs.frame.first_stage.Statement.{statement}
+use Rattle.frames.proofs.frame.first_stage.Tie as tie
+
+pub first-stage-spec : {M : Type 1} → statement M
+first-stage-spec =
+    tie.close
+    (tie.spec
+    (λ c κs. search needs)
+    (λ c. simp (rw (c .before .heard-under-wip .ensures) at (c .if1 .taken)))
+    (λ c. simp (rw (c .before .heard-under-wip .ensures) at (c .if1 .left))))

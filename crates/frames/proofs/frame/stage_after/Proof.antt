@@ -1,0 +1,57 @@
+-- `frames::frame::stage_after` meets its contract.
+-- Assumes nothing.
+use borrow.Author.Needs.{needs}
+use Rattle.frames.proofs.frame.stage_after.Statement.{statement}
+use Rattle.frames.proofs.frame.stage_after.Tie as tie
+
+pub stage-after-spec : {M : Type 1} → statement M
+stage-after-spec =
+    tie.close
+    (tie.spec
+    (λ c. search needs)
+    (λ c. search needs)
+    (λ c κs. search needs)
+    (λ c κs. search needs)
+    (λ c. search needs)
+    (λ c. search needs)
+    (λ c κs. search needs)
+    (λ c. search needs)
+    (λ c κs. search needs)
+    (λ c. search needs)
+    (λ c. search needs)
+    (λ c κs. search needs)
+    (λ c. search needs)
+    (λ c κs. search needs)
+    (λ c. search needs)
+    (λ c κs. search needs)
+    (λ c. search needs)
+    (λ c. search needs)
+    (λ c. search needs)
+    (λ c. search needs)
+    (λ c. search needs)
+    (λ c. search needs)
+    (λ c. search needs)
+    (λ c. search needs)
+    (λ c. search needs)
+    (λ c. search needs)
+    (λ c. search needs)
+    (λ c. simp (c .enum-told .given .1))
+    (λ c. simp (c .first-stage .ensures, c .before .code-of .ensures, c .before .before .enum-told2 .given .1))
+    (λ c. simp (c .enum-told3 .given .1))
+    (λ c. simp (c .second-stage .ensures, c .before .before .stage .given .1))
+    (λ c. simp (c .next .ensures, c .before .before .stage2 .given .1))
+    (λ c. simp (c .before .stage3 .given .1))
+    (λ c. simp (c .next2 .ensures, c .before .before .stage4 .given .1))
+    (λ c. simp (c .next3 .ensures, c .before .before .stage5 .given .1))
+    (λ c. simp (c .next4 .ensures, c .before .before .stage6 .given .1))
+    (λ c. simp (c .before .stage7 .given .1))
+    (λ c. simp (c .enum-told4 .given .1))
+    (λ c. simp (c .enum-told5 .given .1))
+    (λ c. simp (c .enum-told6 .given .1))
+    (λ c. simp (c .enum-told7 .given .1))
+    (λ c. simp (c .enum-told8 .given .1))
+    (λ c. simp (c .enum-told9 .given .1))
+    (λ c. simp (c .enum-told10 .given .1))
+    (λ c. simp (c .enum-told11 .given .1))
+    (λ c. simp (c .enum-told12 .given .1))
+    (λ c. simp (c .enum-told13 .given .1)))

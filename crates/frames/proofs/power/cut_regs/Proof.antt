@@ -1,0 +1,17 @@
+-- `frames::power::cut_regs` meets its contract.
+-- Assumes nothing.
+use borrow.Author.Needs.{needs}
+use Rattle.frames.proofs.power.cut_regs.Statement.{statement}
+use Rattle.frames.proofs.power.cut_regs.Tie as tie
+
+pub cut-regs-spec : {M : Type 1} → statement M
+cut-regs-spec =
+    tie.close
+    (tie.spec
+    (λ c. search needs)
+    (λ c. search needs)
+    (λ c. simp (c .if1 .taken))
+    (λ c. search needs)
+    (λ c. search needs)
+    (λ c. search needs)
+    (λ c. simp (c .if1 .left)))

@@ -1,0 +1,69 @@
+-- A power cut, and power up. Document 01, "Power cut". What the cut stores into the memories is in World.
+-- Assumes nothing.
+use Prim.Native.Nat.{ℕ, _%_}
+use mathlib.Core.Bool.{Bool, true, false}
+use mathlib.Core.List.{List}
+use lib.Dec.{eqb}
+use lib.ListN.{getD, set}
+use Rattle.base.specs.Words.{pick, bit}
+use Rattle.record.specs.declared.Device.{Device}
+use Rattle.record.specs.declared.Counters.{Counters}
+use Rattle.record.specs.declared.Guard.{Guard}
+use Rattle.record.specs.declared.Stage.the-variants.{Idle}
+use Rattle.record.specs.declared.Lock.the-variants.{Closed}
+use Rattle.record.specs.Registers.{dayAt, watchdogAt}
+use Rattle.record.specs.Fresh.{freshRegs, freshSram}
+use Rattle.device.specs.Setters.{withPower}
+use Rattle.device.specs.World.{World, world, eepromAfter, idAfter, protectionAfter, storedCount}
+
+-- VBATEN is 04h bit 3
+abbrev pub vbaten : List ℕ → Bool
+vbaten regs = bit (getD regs dayAt 0) 3
+
+-- "0Ah bit 7 and the watchdog's count, delay and pulse clear"
+abbrev pub cutCounters : Counters → Counters
+cutCounters c = record { divider = c .divider; startup = c .startup; watchdog = 0; delay = 0; pulse = 0 }
+
+abbrev pub freshCounters : Counters
+freshCounters = record { divider = 0; startup = 0; watchdog = 0; delay = 0; pulse = 0 }
+
+abbrev pub cutRegs : List ℕ → List ℕ
+cutRegs regs = set regs watchdogAt (getD regs watchdogAt 0 % 128)
+
+-- the protection that a cut leaves: "STATUS protection stays", but for a STATUS cycle that the mask let through
+abbrev pub cutProtection : ℕ → Device → Guard
+cutProtection mask d =
+    record {
+      wel = false;
+      protection = pick (eqb (d .cycle .left) 0) (d .guard .protection) (protectionAfter mask (d .guard .protection) (d .cycle .target));
+      lock = Closed;
+    }
+
+-- "The cycle stops there and is gone. The frame is dropped, WEL clears, the lock closes .. the chip is not selected. VBATEN set:
+-- registers and SRAM stay and ticks count; clear: registers, SRAM, divider and oscillator are as fresh"
+unfoldable pub afterCut : ℕ → Device → Device
+afterCut mask d =
+    record {
+      regs = pick (vbaten (d .regs)) (cutRegs (d .regs)) freshRegs;
+      sram = pick (vbaten (d .regs)) (d .sram) freshSram;
+      counters = pick (vbaten (d .regs)) (cutCounters (d .counters)) freshCounters;
+      power = false;
+      guard = cutProtection mask d;
+      frame = record { stage = Idle };
+      load = d .load;
+      cycle = record { target = d .cycle .target; left = 0 };
+    }
+
+-- "the answer is how many were stored .. No cycle: 0."
+unfoldable pub cutCount : ℕ → Device → ℕ
+cutCount mask d = pick (eqb (d .cycle .left) 0) 0 (storedCount (d .load) mask (d .cycle .target))
+
+-- the memories after a cut
+unfoldable pub cutWorld : ℕ → World → World
+cutWorld mask w =
+    world (afterCut mask (w .device))
+    (pick (eqb (w .device .cycle .left) 0) (w .eeprom) (eepromAfter (w .device .load) mask (w .eeprom) (w .device .cycle .target)))
+    (pick (eqb (w .device .cycle .left) 0) (w .id) (idAfter (w .device .load) mask (w .id) (w .device .cycle .target)))
+
+unfoldable pub afterUp : Device → Device
+afterUp d = withPower d true

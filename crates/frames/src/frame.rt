@@ -1,0 +1,265 @@
+// Select, and the bytes of a frame: what is answered, where the frame goes, and what the byte does.
+use record::ClockAddress;
+use record::Code;
+use record::Device;
+use record::EepromAddress;
+use record::Frame;
+use record::IdAddress;
+use record::Load;
+use record::Reply;
+use record::Stage;
+ghost use mathlib.Core.Path.{_≡_};
+ghost use Prim.Native.Nat.{_<_};
+ghost use lib.ListN.{length, getD};
+ghost use Rattle.record.specs.Range.{eepromAt, idAt};
+ghost use Rattle.frames.specs.Frame.{instructionReply, nextReply, firstStage, secondStage, stageAfter, emptied, loadedWith, instructionLoad, loadAfter, writtenAt, afterByte, afterSelect};
+
+// The bit of each offset in a set of offsets.
+const OFFSETS: [u8; 8] = [1, 2, 4, 8, 16, 32, 64, 128];
+
+fn byte_at(m: &[u8], a: u8) -> u8
+    requires { ⌜ a < length (now m) ⌝ }
+    ensures { λ r. ⌜ r ≡ getD (now (m .entry)) a 0 ⌝ }
+{
+    let i = a as usize;
+    m[i]
+}
+
+fn instruction_reply(d: Device, code: Code) -> Reply
+    ensures { λ r. ⌜ r ≡ instructionReply d code ⌝ }
+{
+    match code {
+        Code::Eeread => Reply::Off,
+        Code::Eewrite => Reply::Off,
+        Code::Eewrdi => Reply::Off,
+        Code::Eewren => Reply::Off,
+        Code::Srread => Reply::Driven(device::lines::status(d)),
+        Code::Srwrite => Reply::Off,
+        Code::Read => Reply::Off,
+        Code::Write => Reply::Off,
+        Code::Unlock => Reply::Off,
+        Code::Idwrite => Reply::Off,
+        Code::Idread => Reply::Off,
+        Code::Clrwdt => Reply::Off,
+        Code::Clrram => Reply::Off,
+        Code::Other => Reply::Off,
+    }
+}
+
+// What the next whole exchange answers.
+pub fn next_reply(eeprom: &[u8], id: &[u8], d: Device) -> Reply
+    requires { ⌜ (eepromAt (d .frame .stage) < length (now eeprom)) × (idAt (d .frame .stage) < length (now id)) ⌝ }
+    ensures { λ r. ⌜ r ≡ nextReply (now (eeprom .entry)) (now (id .entry)) d ⌝ }
+{
+    let frame = d.frame;
+    let stage = frame.stage;
+    match stage {
+        Stage::Idle => Reply::Off,
+        Stage::Opened => Reply::Off,
+        Stage::Unheard => Reply::Off,
+        Stage::Instruction(c) => instruction_reply(d, c),
+        Stage::EepromRead(a) => Reply::Driven(byte_at(eeprom, a.0)),
+        Stage::EepromWrite(_) => Reply::Off,
+        Stage::ClockRead(a) => Reply::Driven(device::registers::read_clock(d, a)),
+        Stage::ClockWrite(_) => Reply::Off,
+        Stage::IdRead(a) => Reply::Driven(byte_at(id, a.0)),
+        Stage::IdWrite(_) => Reply::Off,
+        Stage::StatusWrite(_) => Reply::Off,
+        Stage::StatusWriteMore => Reply::Off,
+        Stage::UnlockSecond(_) => Reply::Off,
+        Stage::UnlockMore => Reply::Off,
+        Stage::WatchdogSecond => Reply::Off,
+        Stage::WatchdogMore => Reply::Off,
+        Stage::RamSecond => Reply::Off,
+        Stage::RamMore => Reply::Off,
+        Stage::EnableMore => Reply::Off,
+        Stage::DisableMore => Reply::Off,
+    }
+}
+
+fn first_stage(busy: bool, code: Code) -> Stage
+    ensures { λ r. ⌜ r ≡ firstStage busy code ⌝ }
+{
+    let heard = record::range::heard_under_wip(code);
+    if busy & !heard {
+        return Stage::Unheard;
+    }
+    Stage::Instruction(code)
+}
+
+fn second_stage(top: u8, v: u8, code: Code) -> Stage
+    ensures { λ r. ⌜ r ≡ secondStage top v code ⌝ }
+{
+    match code {
+        Code::Eeread => Stage::EepromRead(EepromAddress::taken(v, top)),
+        Code::Eewrite => Stage::EepromWrite(EepromAddress::taken(v, top)),
+        Code::Eewrdi => Stage::DisableMore,
+        Code::Eewren => Stage::EnableMore,
+        Code::Srread => Stage::Instruction(Code::Srread),
+        Code::Srwrite => Stage::StatusWrite(v),
+        Code::Read => Stage::ClockRead(ClockAddress(v)),
+        Code::Write => Stage::ClockWrite(ClockAddress(v)),
+        Code::Unlock => Stage::UnlockSecond(v),
+        Code::Idwrite => Stage::IdWrite(IdAddress::taken(v)),
+        Code::Idread => Stage::IdRead(IdAddress::taken(v)),
+        Code::Clrwdt => Stage::WatchdogSecond,
+        Code::Clrram => Stage::RamSecond,
+        Code::Other => Stage::Instruction(Code::Other),
+    }
+}
+
+// Where a byte takes the frame.
+fn stage_after(top: u8, busy: bool, v: u8, stage: Stage) -> Stage
+    ensures { λ r. ⌜ r ≡ stageAfter top busy v stage ⌝ }
+{
+    match stage {
+        Stage::Idle => Stage::Idle,
+        Stage::Opened => first_stage(busy, record::number::code_of(v)),
+        Stage::Unheard => Stage::Unheard,
+        Stage::Instruction(c) => second_stage(top, v, c),
+        Stage::EepromRead(a) => Stage::EepromRead(a.next(top)),
+        Stage::EepromWrite(a) => Stage::EepromWrite(a),
+        Stage::ClockRead(a) => Stage::ClockRead(a.next()),
+        Stage::ClockWrite(a) => Stage::ClockWrite(a.next()),
+        Stage::IdRead(a) => Stage::IdRead(a.next()),
+        Stage::IdWrite(a) => Stage::IdWrite(a),
+        Stage::StatusWrite(_) => Stage::StatusWriteMore,
+        Stage::StatusWriteMore => Stage::StatusWriteMore,
+        Stage::UnlockSecond(_) => Stage::UnlockMore,
+        Stage::UnlockMore => Stage::UnlockMore,
+        Stage::WatchdogSecond => Stage::WatchdogMore,
+        Stage::WatchdogMore => Stage::WatchdogMore,
+        Stage::RamSecond => Stage::RamMore,
+        Stage::RamMore => Stage::RamMore,
+        Stage::EnableMore => Stage::EnableMore,
+        Stage::DisableMore => Stage::DisableMore,
+    }
+}
+
+// The address byte of a write empties the load and sets the next offset.
+fn emptied_load(load: Load, v: u8) -> Load
+    ensures { λ r. ⌜ r ≡ emptied load v ⌝ }
+{
+    let mut next = load;
+    next.offsets = 0;
+    next.next = v % 8;
+    next
+}
+
+// A data byte of a write: it rolls inside the page, and a later one replaces an earlier.
+fn loaded_with(load: Load, v: u8) -> Load
+    ensures { λ r. ⌜ r ≡ loadedWith load v ⌝ }
+{
+    let k = load.next % 8;
+    let i = k as usize;
+    let mut next = load;
+    next.offsets = load.offsets | OFFSETS[i];
+    next.bytes[i] = v;
+    next.next = (k + 1) % 8;
+    next
+}
+
+fn instruction_load(load: Load, v: u8, code: Code) -> Load
+    ensures { λ r. ⌜ r ≡ instructionLoad load v code ⌝ }
+{
+    match code {
+        Code::Eeread => load,
+        Code::Eewrite => emptied_load(load, v),
+        Code::Eewrdi => load,
+        Code::Eewren => load,
+        Code::Srread => load,
+        Code::Srwrite => load,
+        Code::Read => load,
+        Code::Write => load,
+        Code::Unlock => load,
+        Code::Idwrite => emptied_load(load, v),
+        Code::Idread => load,
+        Code::Clrwdt => load,
+        Code::Clrram => load,
+        Code::Other => load,
+    }
+}
+
+fn load_after(load: Load, v: u8, stage: Stage) -> Load
+    ensures { λ r. ⌜ r ≡ loadAfter load v stage ⌝ }
+{
+    match stage {
+        Stage::Idle => load,
+        Stage::Opened => load,
+        Stage::Unheard => load,
+        Stage::Instruction(c) => instruction_load(load, v, c),
+        Stage::EepromRead(_) => load,
+        Stage::EepromWrite(_) => loaded_with(load, v),
+        Stage::ClockRead(_) => load,
+        Stage::ClockWrite(_) => load,
+        Stage::IdRead(_) => load,
+        Stage::IdWrite(_) => loaded_with(load, v),
+        Stage::StatusWrite(_) => load,
+        Stage::StatusWriteMore => load,
+        Stage::UnlockSecond(_) => load,
+        Stage::UnlockMore => load,
+        Stage::WatchdogSecond => load,
+        Stage::WatchdogMore => load,
+        Stage::RamSecond => load,
+        Stage::RamMore => load,
+        Stage::EnableMore => load,
+        Stage::DisableMore => load,
+    }
+}
+
+// WRITE stores each byte as it comes.
+fn written_at(boots: bool, d: Device, v: u8, stage: Stage) -> Device
+    ensures { λ r. ⌜ r ≡ writtenAt boots d v stage ⌝ }
+{
+    match stage {
+        Stage::Idle => d,
+        Stage::Opened => d,
+        Stage::Unheard => d,
+        Stage::Instruction(_) => d,
+        Stage::EepromRead(_) => d,
+        Stage::EepromWrite(_) => d,
+        Stage::ClockRead(_) => d,
+        Stage::ClockWrite(a) => device::registers::write_clock(boots, d, a, v),
+        Stage::IdRead(_) => d,
+        Stage::IdWrite(_) => d,
+        Stage::StatusWrite(_) => d,
+        Stage::StatusWriteMore => d,
+        Stage::UnlockSecond(_) => d,
+        Stage::UnlockMore => d,
+        Stage::WatchdogSecond => d,
+        Stage::WatchdogMore => d,
+        Stage::RamSecond => d,
+        Stage::RamMore => d,
+        Stage::EnableMore => d,
+        Stage::DisableMore => d,
+    }
+}
+
+// The device after a whole byte.
+pub fn after_byte(boots: bool, top: u8, v: u8, d: Device) -> Device
+    ensures { λ r. ⌜ r ≡ afterByte boots top v d ⌝ }
+{
+    let before = d.frame;
+    let stage = before.stage;
+    let old = d.load;
+    let busy = device::lines::in_progress(d);
+    let moved = stage_after(top, busy, v, stage);
+    let load = load_after(old, v, stage);
+    let frame = Frame { stage: moved };
+    let mut next = written_at(boots, d, v, stage);
+    next.frame = frame;
+    next.load = load;
+    next
+}
+
+// Select opens a frame.
+pub fn after_select(d: Device) -> Device
+    ensures { λ r. ⌜ r ≡ afterSelect d ⌝ }
+{
+    let frame = Frame {
+        stage: Stage::Opened,
+    };
+    let mut next = d;
+    next.frame = frame;
+    next
+}
