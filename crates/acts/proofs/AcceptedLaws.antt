@@ -1,0 +1,58 @@
+-- What an act that no row of the table refuses may suppose: a number that is a byte, pointers inside the lent memories, and a page inside
+-- its memory.
+-- Assumes nothing.
+use mathlib.Core.Path.{_≡_, refl}
+use mathlib.Core.Bool.{false}
+use Prim.Native.Nat.{ℕ, _+_, _%_, _<_, _≤_}
+use native.Mathlib.Omega.{arith}
+use borrow.Author.Tests.{ltb-false}
+use lib.Dec.{ltb, eqb, lit<}
+use Rattle.base.proofs.Tests.{pick-case}
+use Rattle.record.specs.declared.Act.{Act}
+use Rattle.record.specs.declared.Act.the-variants.{Byte, End, Cut}
+use Rattle.record.specs.declared.Device.{Device}
+use Rattle.record.specs.Address.{pageOf}
+use Rattle.record.specs.InRange.{InRange}
+use Rattle.record.specs.Part.{sizeOf, idSize}
+use Rattle.record.specs.Range.{eepromAt, idAt, eepromIn, idIn}
+use Rattle.record.specs.Refusal.{refusalOf}
+use Rattle.record.proofs.RangeLaws.{in-range}
+use Rattle.record.proofs.TableLaws.{Accepted, accepted}
+use Rattle.acts.proofs.PageLaws.{page-fits}
+
+-- a number that its row lets through is its own byte
+byte-number : (most n : ℕ) → most < 256 → ltb most n ≡ false → n % 256 ≡ n
+byte-number most n h e = omega (arith, ltb-false most n e)
+
+-- of the acts that take a byte, a leftover or a mask
+pub accepted-byte : (part n : ℕ) (d : Device) (ee id : ℕ) → refusalOf part Byte n d ee id ≡ 0 → n % 256 ≡ n
+accepted-byte part n d ee id e = byte-number 255 n (lit< tt) (accepted part Byte n d ee id e .number)
+
+pub accepted-end : (part n : ℕ) (d : Device) (ee id : ℕ) → refusalOf part End n d ee id ≡ 0 → n % 256 ≡ n
+accepted-end part n d ee id e = byte-number 7 n (lit< tt) (accepted part End n d ee id e .number)
+
+pub accepted-cut : (part n : ℕ) (d : Device) (ee id : ℕ) → refusalOf part Cut n d ee id ≡ 0 → n % 256 ≡ n
+accepted-cut part n d ee id e = byte-number 255 n (lit< tt) (accepted part Cut n d ee id e .number)
+
+-- an EEPROM is whole pages
+whole-pages : (part : ℕ) → sizeOf part % 8 ≡ 0
+whole-pages part = pick-case (λ (top : ℕ). (top + 1) % 8 ≡ 0) (eqb (part % 2) 1) refl refl
+
+-- a record and memories of lengths ee and id
+pub record Suits (d : Device) (ee id : ℕ) : Type 0 where
+  pub frameEeprom : eepromAt (d .frame .stage) < ee
+  pub frameId : idAt (d .frame .stage) < id
+  pub pageEeprom : pageOf (eepromIn (d .cycle .target)) + 8 ≤ ee
+  pub pageId : pageOf (idIn (d .cycle .target)) + 8 ≤ id
+
+pub suits : (part : ℕ) (act : Act) (n : ℕ) (d : Device) (ee id : ℕ) → refusalOf part act n d ee id ≡ 0 → Suits d ee id
+suits part act n d ee id e =
+    let a : Accepted part act n d ee id = accepted part act n d ee id e in
+    let r : InRange part d = in-range part d (a .ranged) in
+    rw (a .eeprom, a .ids)
+    (record {
+      frameEeprom = r .frameEeprom;
+      frameId = r .frameId;
+      pageEeprom = page-fits (eepromIn (d .cycle .target)) (sizeOf part) (r .cycleEeprom) (whole-pages part);
+      pageId = page-fits (idIn (d .cycle .target)) idSize (r .cycleId) refl;
+    })

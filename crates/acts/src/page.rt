@@ -1,0 +1,44 @@
+// A page stored into a lent memory.
+use record::Load;
+use record::Target;
+ghost use mathlib.Core.Path.{_≡_};
+ghost use Prim.Native.Nat.{_+_, _≤_};
+ghost use lib.ListN.{length};
+ghost use Rattle.base.specs.Words.{storeUnder};
+ghost use Rattle.record.specs.Address.{pageOf};
+ghost use Rattle.record.specs.Range.{eepromIn, idIn};
+ghost use Rattle.device.specs.World.{eepromAfter, idAfter};
+
+// For each offset in the set, the byte at base + offset becomes that of bytes.
+fn store(m: &mut [u8], base: usize, set: u8, bytes: [u8; 8])
+    requires { ⌜ base + 8 ≤ length (now m) ⌝ }
+    ensures { λ _. ⌜ now (m .exit) ≡ storeUnder (now (m .entry)) base set bytes 8 ⌝ }
+{
+    let mut k: usize = 0;
+    while k < 8 {
+        if (set >> k) % 2 == 1 {
+            m[base + k] = bytes[k];
+        }
+        k += 1;
+    }
+}
+
+// What a write cycle's page changes under a mask, in the memory that it is for.
+pub fn store_target(target: Target, load: Load, mask: u8, eeprom: &mut [u8], id: &mut [u8])
+    requires { ⌜ (pageOf (eepromIn target) + 8 ≤ length (now eeprom)) × (pageOf (idIn target) + 8 ≤ length (now id)) ⌝ }
+    ensures { λ _. ⌜ (now (eeprom .exit) ≡ eepromAfter load mask (now (eeprom .entry)) target) × (now (id .exit) ≡ idAfter load mask (now (id .entry)) target) ⌝ }
+{
+    let set = load.offsets & mask;
+    let bytes = load.bytes;
+    match target {
+        Target::Eeprom(a) => {
+            let base = (a.0 / 8 * 8) as usize;
+            store(eeprom, base, set, bytes);
+        }
+        Target::Id(a) => {
+            let base = (a.0 / 8 * 8) as usize;
+            store(id, base, set, bytes);
+        }
+        Target::Status(_) => {}
+    }
+}

@@ -1,0 +1,32 @@
+// A wait of the record: ticks up to the first that changes IRQ, WDO or WIP, or n.
+use record::Device;
+ghost use mathlib.Core.Path.{_≡_};
+ghost use Rattle.device.specs.Tick.{deviceWaited};
+
+pub struct Waited {
+    pub used: u64,
+    pub device: Device,
+}
+
+pub fn wait_device(boots: bool, n: u64, d: Device) -> Waited
+    ensures { λ r. ⌜ (r .used ≡ deviceWaited boots n d .used) × (r .device ≡ deviceWaited boots n d .device) ⌝ }
+{
+    let mut now_device = d;
+    let mut left = n;
+    while 0 < left {
+        let after = device::tick::device_tick(boots, now_device);
+        let stops = device::lines::lines_changed(now_device, after);
+        now_device = after;
+        left -= 1;
+        if stops {
+            return Waited {
+                used: n - left,
+                device: now_device,
+            };
+        }
+    }
+    Waited {
+        used: n,
+        device: now_device,
+    }
+}

@@ -1,0 +1,69 @@
+-- What follows for every run from fresh: no act of it is answered 4, 6 or 7, and its record stays in range.
+-- Assumes nothing.
+use Prim.Native.Nat.{ℕ}
+use mathlib.Core.Path.{_≡_, refl, sym, ap, _∙_}
+use mathlib.Core.Bool.{Bool, true, false, _||_}
+use mathlib.Core.Logic.{_≢_}
+use mathlib.Core.List.{List}
+use borrow.Author.Tests.{eqb-false}
+use lib.Dec.{eqb}
+use Rattle.base.specs.Words.{pick}
+use Rattle.base.proofs.Tests.{by-cases, pick-when}
+use Rattle.record.specs.declared.Act.{Act}
+use Rattle.record.specs.declared.Act.the-variants.{Select, Byte, End, Wait, Cut, Up}
+use Rattle.record.specs.Part.{isPart}
+use Rattle.record.specs.InRange.{InRange}
+use Rattle.device.specs.World.{World}
+use Rattle.acts.specs.Act.{Outcome, accepted, refused, refusalIn, performed}
+use Rattle.ledger.specs.State.{start}
+use Rattle.ledger.specs.Steps.{ledgerRun}
+use Rattle.run.specs.Claim.{Input, ourChip, worldAfter, fed, freshWorld}
+use Rattle.run.proofs.Agree.{Agree}
+use Rattle.run.proofs.FreshAgrees.{fresh-agrees}
+use Rattle.run.proofs.Refused.{never}
+use Rattle.run.proofs.DemandThree.{run-agrees}
+
+-- the chip after any list of acts
+abbrev pub reached : ℕ → List Input → World
+reached part xs = worldAfter ourChip part xs (freshWorld part)
+
+reached-agrees :
+    (part : ℕ) → isPart part ≡ true → (xs : List Input)
+    → Agree (freshWorld part) part (reached part xs) (ledgerRun part (fed ourChip part xs (freshWorld part)) start)
+reached-agrees part p xs = run-agrees (freshWorld part) part p xs (freshWorld part) start (fresh-agrees part)
+
+pub reached-in-range : (part : ℕ) → isPart part ≡ true → (xs : List Input) → InRange part (reached part xs .device)
+reached-in-range part p xs = reached-agrees part p xs .range
+
+-- an accepted act is answered 0
+done-zero : (part n : ℕ) (w : World) (act : Act) → accepted part n w act .number ≡ 0
+done-zero part n w Select = refl
+done-zero part n w Byte = refl
+done-zero part n w End = refl
+done-zero part n w Wait = refl
+done-zero part n w Cut = refl
+done-zero part n w Up = refl
+
+not-answered :
+    (part : ℕ) → isPart part ≡ true → (xs : List Input) (act : Act) (n k : ℕ) → (eqb k 0 || eqb k 1 || eqb k 2 || eqb k 3 || eqb k 5) ≡ false
+    → eqb 0 k ≡ false → performed part act n (reached part xs) .number ≢ k
+unfolding performed
+not-answered part p xs act n k out z =
+    let w : World = reached part xs in
+    pick-when (λ (o : Outcome). o .number ≢ k) (eqb (refusalIn part act n w) 0)
+    (λ t e. eqb-false 0 k z (sym (done-zero part n w act) ∙ e))
+    (λ t e. never (freshWorld part) part w _ act n k p (reached-agrees part p xs) out e)
+
+pub record NeverAnswered (part : ℕ) (xs : List Input) (act : Act) (n : ℕ) : Type 0 where
+  pub four : performed part act n (reached part xs) .number ≢ 4
+  pub six : performed part act n (reached part xs) .number ≢ 6
+  pub seven : performed part act n (reached part xs) .number ≢ 7
+
+-- no act of a run is ever answered 4, 6 or 7
+pub never-answered : (part : ℕ) → isPart part ≡ true → (xs : List Input) (act : Act) (n : ℕ) → NeverAnswered part xs act n
+never-answered part p xs act n =
+    record {
+      four = not-answered part p xs act n 4 refl refl;
+      six = not-answered part p xs act n 6 refl refl;
+      seven = not-answered part p xs act n 7 refl refl;
+    }

@@ -1,0 +1,4 @@
+pub mod Claim
+pub mod Run
+pub mod Wrong
+pub mod Changes
