@@ -15,7 +15,6 @@ ghost use Rattle.acts.specs.Act.{silentAnswer, answered, outcome, waited
 ghost use Rattle.record.specs.declared.Reply.the-variants.{Off};
 
 pub mod page; // page.rt: a page stored under a mask
-pub mod wait; // wait.rt: ticks up to the first that changes a line
 
 // The answer of an act: its number in the refusal table, 0 for done; the reply on SO; a wait's ticks used or a cut's count; the record.
 pub struct Answer {
@@ -45,7 +44,7 @@ fn wait_act(boots: bool, n: u64, d: Device, eeprom: &mut [u8], id: &mut [u8]) ->
     let y = d.cycle;
     let target = y.target;
     let load = d.load;
-    let w = wait::wait_device(boots, n, d);
+    let w = waits::wait::wait_device(boots, n, d);
     let after = w.device;
     let z = after.cycle;
     let was = 0 < y.left;

@@ -1,19 +1,39 @@
 // A wait of the record: ticks up to the first that changes IRQ, WDO or WIP, or n.
+use crate::jump::jump;
+use crate::jump::quiet_ticks;
+use device::registers::DAY;
 use record::Device;
 ghost use mathlib.Core.Path.{_≡_};
-ghost use Rattle.device.specs.Tick.{deviceWaited};
+ghost use Rattle.device.specs.Tick.{alive, deviceWaited};
 
 pub struct Waited {
     pub used: u64,
     pub device: Device,
 }
 
+// The chip has power, or VBATEN is set: ticks count.
+fn is_alive(d: Device) -> bool
+    ensures { λ r. ⌜ r ≡ alive d ⌝ }
+{
+    d.power | (d.regs[DAY] / 8 % 2 == 1)
+}
+
 pub fn wait_device(boots: bool, n: u64, d: Device) -> Waited
     ensures { λ r. ⌜ (r .used ≡ deviceWaited boots n d .used) × (r .device ≡ deviceWaited boots n d .device) ⌝ }
 {
+    let alive = is_alive(d);
+    if !alive {
+        return Waited { used: n, device: d };
+    }
     let mut now_device = d;
     let mut left = n;
     while 0 < left {
+        let k = quiet_ticks(boots, left, now_device);
+        if 0 < k {
+            now_device = jump(boots, k, now_device);
+            left -= k;
+            continue;
+        }
         let after = device::tick::device_tick(boots, now_device);
         let stops = device::lines::lines_changed(now_device, after);
         now_device = after;

@@ -1,0 +1,322 @@
+-- Laws of a jump: ticks in which only counts move leave what `jumped` says, change no line, and are passed over by a wait.
+-- Assumes nothing.
+use Prim.Native.Nat.{ℕ, zero, suc, _+_, _-_, _*_, _/_, _%_, min, _<_, _≤_}
+use mathlib.Core.Path.{_≡_, refl, sym, ap, _∙_}
+use mathlib.Core.Bool.{Bool, true, false, not, _&&_, _||_}
+use mathlib.Core.Logic.{_⊎_, inl, inr, ⊎-elim, _≢_}
+use native.Mathlib.Numerals.{add-one}
+use native.Mathlib.Omega.{arith}
+use borrow.Author.Tests.{ltb-true, ltb-false, lt-ltb, le-ltb, eqb-true, eqb-false, eq-eqb, ne-eqb}
+use lib.Dec.{ltb, eqb}
+use lib.ListN.{getD}
+use Rattle.base.specs.Words.{pick, bit}
+use Rattle.base.proofs.Tests.{by-cases, pick-case, pick-when, true-false, neither}
+use Rattle.record.specs.declared.Device.{Device}
+use Rattle.record.specs.declared.Counters.{Counters}
+use Rattle.record.specs.Registers.{watchdogAt, secondsAt, periodOf, startupTicks, dividerTicks}
+use Rattle.device.specs.Setters.{withCounters, withRegs}
+use Rattle.device.specs.Registers.{oscon}
+use Rattle.device.specs.Lines.{irqLow, wdoLow, wip, differ, changed}
+use Rattle.device.specs.Oscillator.{asked, oscillatorTick}
+use Rattle.device.specs.Watchdog.{counting, pulseTick, watchdogTick}
+use Rattle.device.specs.Clock.{running, due, hundredthDue, dividerTick, calendarTick}
+use Rattle.device.specs.Tick.{withLeft, cycleDevice, alarmTick, clockwork, alive, deviceTick, DeviceWaited, plusDevice, deviceWaited}
+use Rattle.waits.specs.Jump.{Quiet, counts, runs, jumpedCounters, jumped, above, watched, gap, divided, quietTicks}
+use Rattle.device.proofs.ClockLaws.{clock-still}
+use Rattle.device.proofs.WaitLaws.{device-wait-go}
+
+-- two counters are equal field by field
+pub counters-same :
+    {a b : Counters} → a .divider ≡ b .divider → a .startup ≡ b .startup → a .watchdog ≡ b .watchdog → a .delay ≡ b .delay → a .pulse ≡ b .pulse → a ≡ b
+counters-same p q r s t = λ i. record { divider = p i; startup = q i; watchdog = r i; delay = s i; pulse = t i }
+
+-- the write cycle's part of such a tick
+cycle-jump : (boots : Bool) (k : ℕ) (d : Device) → Quiet boots (suc k) d → cycleDevice d ≡ withLeft d (d .cycle .left - 1)
+unfolding cycleDevice
+cycle-jump boots k d q =
+    ⊎-elim
+    (λ z. simp (eq-eqb (d .cycle .left) 0 z) (ap (withLeft d) (omega arith)))
+    (λ l.
+    simp (ne-eqb (d .cycle .left) 0 (λ e. omega arith), ne-eqb (d .cycle .left) 1 (λ e. omega arith)))
+    (q .cycle)
+
+-- the watchdog's part of a tick that does not come to its period
+watchdog-one :
+    (d : Device)
+    → (counts d ≡ true → eqb (d .counters .delay) 0 ≡ true → d .counters .watchdog + 1 < periodOf (getD (d .regs) watchdogAt 0))
+    → watchdogTick (oscon (d .counters)) d
+    ≡ withCounters d
+    (record {
+      divider = d .counters .divider;
+      startup = d .counters .startup;
+      watchdog = pick (counts d && eqb (d .counters .delay) 0) (d .counters .watchdog + 1) (d .counters .watchdog);
+      delay = pick (counts d) (d .counters .delay - 1) (d .counters .delay);
+      pulse = d .counters .pulse - 1;
+    })
+unfolding watchdogTick
+watchdog-one d h =
+    by-cases (counts d)
+    (λ n.
+    by-cases (eqb (d .counters .delay) 0)
+    (λ z.
+    let w : ltb (d .counters .watchdog + 1) (periodOf (getD (d .regs) watchdogAt 0)) ≡ true = lt-ltb (d .counters .watchdog + 1) _ (h n z) in
+    let o : ltb 0 (d .counters .delay) ≡ false = le-ltb 0 (d .counters .delay) (omega (arith, eqb-true (d .counters .delay) 0 z)) in
+    rw (n, z, o, w)
+    (ap (withCounters d) (counters-same refl refl refl (omega (arith, eqb-true (d .counters .delay) 0 z)) refl)))
+    (λ z.
+    let o : ltb 0 (d .counters .delay) ≡ true = lt-ltb 0 (d .counters .delay) (omega (arith, eqb-false (d .counters .delay) 0 z)) in
+    rw (n, z, o)))
+    (λ n. rw n)
+
+-- calendar and alarms of a tick that advances no hundredth
+clock-one :
+    (counted : Bool) (d : Device)
+    → (running counted d ≡ true → hundredthDue (d .counters .divider) ≡ false)
+    → (running counted d ≡ true → d .counters .divider + 1 < dividerTicks)
+    → alarmTick counted d (calendarTick counted d)
+    ≡ withCounters d
+    (record {
+      divider = pick (running counted d) (d .counters .divider + 1) (d .counters .divider);
+      startup = d .counters .startup;
+      watchdog = d .counters .watchdog;
+      delay = d .counters .delay;
+      pulse = d .counters .pulse;
+    })
+clock-one counted d h small =
+    by-cases (running counted d)
+    (λ n.
+    let m : (d .counters .divider + 1) % dividerTicks ≡ d .counters .divider + 1 = omega (arith, small n) in
+    sym (clock-still counted d (rw n (h n))) ∙ rw (n, m))
+    (λ n. sym (clock-still counted d (rw n)) ∙ rw n)
+
+-- the oscillator's part changes nothing
+oscillator-one : (boots : Bool) (d : Device) → (asked boots (d .regs) && ltb (d .counters .startup) startupTicks) ≡ false → oscillatorTick boots d ≡ d
+unfolding oscillatorTick
+oscillator-one boots d e = rw e
+
+clockwork-one :
+    (boots : Bool) (d : Device) → (asked boots (d .regs) && ltb (d .counters .startup) startupTicks) ≡ false
+    → (counts d ≡ true → eqb (d .counters .delay) 0 ≡ true → d .counters .watchdog + 1 < periodOf (getD (d .regs) watchdogAt 0))
+    → (runs d ≡ true → hundredthDue (d .counters .divider) ≡ false) → (runs d ≡ true → d .counters .divider + 1 < dividerTicks)
+    → clockwork boots d ≡ withCounters d (jumpedCounters 1 d)
+unfolding clockwork
+clockwork-one boots d steady w h small =
+    let counted : Bool = oscon (d .counters) in
+    let e : Device = withCounters d
+    (record {
+      divider = d .counters .divider;
+      startup = d .counters .startup;
+      watchdog = pick (counts d && eqb (d .counters .delay) 0) (d .counters .watchdog + 1) (d .counters .watchdog);
+      delay = pick (counts d) (d .counters .delay - 1) (d .counters .delay);
+      pulse = d .counters .pulse - 1;
+    }) in
+    ap (λ (x : Device). alarmTick counted x (calendarTick counted x)) (ap (watchdogTick counted) (oscillator-one boots d steady) ∙ watchdog-one d w)
+    ∙ clock-one counted e h small
+
+-- such a tick
+quiet-tick : (boots : Bool) (k : ℕ) (d : Device) → Quiet boots (suc k) d → deviceTick boots d ≡ jumped 1 d
+unfolding deviceTick jumped
+quiet-tick boots k d q =
+    rw (q .live)
+    (ap (clockwork boots) (cycle-jump boots k d q)
+    ∙ clockwork-one boots (withLeft d (d .cycle .left - 1)) (q .steady) (λ n z. omega (arith, q .watchdog n z))
+    (λ n. q .still n (d .counters .divider) (omega arith) (omega arith)) (λ n. omega (arith, q .small n)))
+
+-- leaves one tick less of the kind
+quiet-less : (boots : Bool) (k : ℕ) (d : Device) → Quiet boots (suc k) d → Quiet boots k (jumped 1 d)
+unfolding jumped
+quiet-less boots k d q =
+    record {
+      live = q .live;
+      steady = q .steady;
+      cycle = ⊎-elim (λ z. inl (omega arith)) (λ l. inr (omega arith)) (q .cycle);
+      pulse = ⊎-elim (λ z. inl (omega arith)) (λ l. inr (omega arith)) (q .pulse);
+      delay =
+          λ n z.
+          by-cases (eqb (d .counters .delay) 0)
+          (λ e. absurd (true-false (eq-eqb (d .counters .delay - 1) 0 (omega (arith, eqb-true (d .counters .delay) 0 e))) (rw n at z)))
+          (λ e. rw n (omega (arith, q .delay n e)));
+      watchdog =
+          λ n z.
+          by-cases (eqb (d .counters .delay) 0)
+          (λ e. rw (n, e) (omega (arith, q .watchdog n e)))
+          (λ e.
+          let zero : eqb (d .counters .delay - 1) 0 ≡ true = rw n at z in
+          absurd (omega (arith, q .delay n e, eqb-true (d .counters .delay - 1) 0 zero)));
+      small = λ n. rw n (omega (arith, q .small n));
+      still = λ n t h l. q .still n t (omega (arith, rw n at h)) (omega (arith, rw n at l));
+    }
+
+-- changes no line
+differ-same : (a : Bool) → differ a a ≡ false
+differ-same true = refl
+differ-same false = refl
+
+same-above : (n : ℕ) → (n ≡ 0) ⊎ (1 < n) → ltb 0 (n - 1) ≡ ltb 0 n
+same-above n = ⊎-elim (λ z. rw z) (λ l. lt-ltb 0 (n - 1) (omega arith) ∙ sym (lt-ltb 0 n (omega arith)))
+
+quiet-lines : (boots : Bool) (k : ℕ) (d : Device) → Quiet boots (suc k) d → changed d (jumped 1 d) ≡ false
+unfolding jumped changed irqLow wdoLow
+quiet-lines boots k d q =
+    let p : ltb 0 (d .counters .pulse - 1) ≡ ltb 0 (d .counters .pulse) = same-above (d .counters .pulse) (⊎-elim (λ z. inl z) (λ l. inr (omega arith)) (q .pulse)) in
+    let c : ltb 0 (d .cycle .left - 1) ≡ ltb 0 (d .cycle .left) = same-above (d .cycle .left) (⊎-elim (λ z. inl z) (λ l. inr (omega arith)) (q .cycle)) in
+    rw (p, c) (neither (neither (differ-same (irqLow d)) (differ-same (wdoLow d))) (differ-same (wip d)))
+
+-- and k of them are a jump
+pub both-same : (d : Device) {x y : ℕ} {a b : Counters} → x ≡ y → a ≡ b → withCounters (withLeft d x) a ≡ withCounters (withLeft d y) b
+both-same d p c = λ i. withCounters (withLeft d (p i)) (c i)
+
+picked : (t : Bool) (x y : ℕ) → x ≡ y → pick t x y ≡ y
+picked true x y e = e
+picked false x y e = refl
+
+jump-none : (d : Device) → jumped 0 d ≡ d
+unfolding jumped
+jump-none d =
+    both-same d {y = d .cycle .left} {b = d .counters} (omega arith)
+    (counters-same (picked (runs d) _ _ (omega arith)) refl (picked (counts d && eqb (d .counters .delay) 0) _ _ (omega arith))
+    (picked (counts d) _ _ (omega arith)) (omega arith))
+
+jump-jump : (boots : Bool) (k : ℕ) (d : Device) → Quiet boots (suc k) d → jumped k (jumped 1 d) ≡ jumped (suc k) d
+unfolding jumped
+jump-jump boots k d q =
+    both-same d (omega arith)
+    (counters-same
+    (by-cases (runs d) (λ n. rw n (omega arith)) (λ n. rw n))
+    refl
+    (by-cases (counts d)
+    (λ n.
+    by-cases (eqb (d .counters .delay) 0)
+    (λ z.
+    let y : eqb (d .counters .delay - 1) 0 ≡ true = eq-eqb (d .counters .delay - 1) 0 (omega (arith, eqb-true (d .counters .delay) 0 z)) in
+    rw (n, z, y) (omega arith))
+    (λ z.
+    let y : eqb (d .counters .delay - 1) 0 ≡ false = ne-eqb (d .counters .delay - 1) 0 (λ e. omega (arith, q .delay n z)) in
+    rw (n, z, y)))
+    (λ n. rw n))
+    (by-cases (counts d) (λ n. rw n (omega arith)) (λ n. rw n))
+    (omega arith))
+
+plus-none : (r : DeviceWaited) → r ≡ plusDevice 0 r
+plus-none r = let p : r .used ≡ 0 + r .used = omega arith in λ i. record { used = p i; device = r .device }
+
+plus-plus : (k : ℕ) (r : DeviceWaited) → plusDevice 1 (plusDevice k r) ≡ plusDevice (suc k) r
+plus-plus k r = let p : 1 + (k + r .used) ≡ suc k + r .used = omega arith in λ i. record { used = p i; device = r .device }
+
+-- A wait passes over ticks in which only counts move.
+pub wait-jump :
+    (boots : Bool) (k m : ℕ) (d : Device) → Quiet boots k d
+    → deviceWaited boots (m + k) d ≡ plusDevice k (deviceWaited boots m (jumped k d))
+wait-jump boots zero m d q =
+    let n : m + 0 ≡ m = omega arith in
+    ap (λ (j : ℕ). deviceWaited boots j d) n ∙ ap (deviceWaited boots m) (sym (jump-none d)) ∙ plus-none (deviceWaited boots m (jumped 0 d))
+wait-jump boots (suc k) m d q =
+    let n : m + suc k ≡ (m + k) + 1 = omega arith in
+    let t : deviceTick boots d ≡ jumped 1 d = quiet-tick boots k d q in
+    let c : changed d (deviceTick boots d) ≡ false = ap (changed d) t ∙ quiet-lines boots k d q in
+    ap (λ (j : ℕ). deviceWaited boots j d) n ∙ device-wait-go boots (m + k) d c
+    ∙ ap (plusDevice 1)
+    (ap (deviceWaited boots (m + k)) t ∙ wait-jump boots k m (jumped 1 d) (quiet-less boots k d q)
+    ∙ ap (plusDevice k) (ap (deviceWaited boots m) (jump-jump boots k d q)))
+    ∙ plus-plus k (deviceWaited boots m (jumped (suc k) d))
+
+-- the hundredths stand still up to the gap
+gap-most : (s t : ℕ) → s < dividerTicks → s ≤ t → t < s + gap s → t + 1 ≤ ((100 * s / dividerTicks + 1) * dividerTicks - 1) / 100
+gap-most s t h l u = omega arith
+
+gap-still : (s t : ℕ) → s < dividerTicks → s ≤ t → t < s + gap s → hundredthDue t ≡ false
+gap-still s t h l u =
+    let q : ℕ = 100 * s / dividerTicks in
+    let a : q ≤ 100 * t / dividerTicks = omega arith in
+    let b : 100 * (t + 1) ≤ (q + 1) * dividerTicks - 1 = omega (arith, gap-most s t h l u) in
+    let c : 100 * (t + 1) / dividerTicks ≤ q = omega arith in
+    le-ltb (100 * t / dividerTicks) (100 * (t + 1) / dividerTicks) (omega arith)
+
+gap-small : (s : ℕ) → s < dividerTicks → 0 < gap s → s + gap s < dividerTicks
+gap-small s h l = omega arith
+
+-- What the number of quiet ticks is bounded by, part by part.
+above-most : (limit n : ℕ) → above limit n ≤ limit
+above-most limit n = pick-case (λ (k : ℕ). k ≤ limit) (eqb n 0) (omega arith) (omega arith)
+
+above-less : (limit n k : ℕ) → 0 < k → k ≤ above limit n → (n ≡ 0) ⊎ (k < n)
+above-less limit n k p h =
+    by-cases (eqb n 0) (λ z. inl (eqb-true n 0 z))
+    (λ z. inr (let g : k ≤ min limit (n - 1) = rw z at h in omega arith))
+
+watched-most : (limit : ℕ) (d : Device) → watched limit d ≤ limit
+watched-most limit d =
+    pick-case (λ (k : ℕ). k ≤ limit) (counts d)
+    (pick-case (λ (k : ℕ). k ≤ limit) (eqb (d .counters .delay) 0) (omega arith) (omega arith)) (omega arith)
+
+watched-delay :
+    (limit : ℕ) (d : Device) (k : ℕ) → 0 < k → k ≤ watched limit d → counts d ≡ true → eqb (d .counters .delay) 0 ≡ false → k < d .counters .delay
+watched-delay limit d k p h n z = let g : k ≤ min limit (d .counters .delay - 1) = rw (n, z) at h in omega arith
+
+watched-count :
+    (limit : ℕ) (d : Device) (k : ℕ) → 0 < k → k ≤ watched limit d → counts d ≡ true → eqb (d .counters .delay) 0 ≡ true
+    → d .counters .watchdog + k < periodOf (getD (d .regs) watchdogAt 0)
+watched-count limit d k p h n z =
+    let g : k ≤ min limit (periodOf (getD (d .regs) watchdogAt 0) - 1 - d .counters .watchdog) = rw (n, z) at h in omega arith
+
+divided-most : (limit : ℕ) (d : Device) → divided limit d ≤ limit
+divided-most limit d =
+    pick-case (λ (k : ℕ). k ≤ limit) (runs d)
+    (pick-case (λ (k : ℕ). k ≤ limit) (ltb (d .counters .divider) dividerTicks) (omega arith) (omega arith)) (omega arith)
+
+divided-gap :
+    (limit : ℕ) (d : Device) (k : ℕ) → 0 < k → k ≤ divided limit d → runs d ≡ true
+    → (d .counters .divider < dividerTicks) × (k ≤ gap (d .counters .divider))
+divided-gap limit d k p h n =
+    by-cases (ltb (d .counters .divider) dividerTicks)
+    (λ z.
+    let g : k ≤ min limit (gap (d .counters .divider)) = rw (n, z) at h in
+    (ltb-true (d .counters .divider) dividerTicks z, omega arith))
+    (λ z. let g : k ≤ 0 = rw (n, z) at h in absurd (omega arith))
+
+quiet-of :
+    (boots : Bool) (limit k : ℕ) (d : Device) → alive d ≡ true
+    → (asked boots (d .regs) && ltb (d .counters .startup) startupTicks) ≡ false → 0 < k
+    → k ≤ divided (watched (above (above limit (d .cycle .left)) (d .counters .pulse)) d) d → Quiet boots k d
+quiet-of boots limit k d a e p h =
+    let l : ℕ = above limit (d .cycle .left) in
+    let u : ℕ = above l (d .counters .pulse) in
+    let w : ℕ = watched u d in
+    let hw : k ≤ w = omega (arith, divided-most w d) in
+    let hu : k ≤ u = omega (arith, watched-most u d) in
+    let hl : k ≤ l = omega (arith, above-most l (d .counters .pulse)) in
+    record {
+      live = a;
+      steady = e;
+      cycle = above-less limit (d .cycle .left) k p hl;
+      pulse = above-less l (d .counters .pulse) k p hu;
+      delay = watched-delay u d k p hw;
+      watchdog = watched-count u d k p hw;
+      small =
+          λ n.
+          let g = divided-gap w d k p h n in
+          omega (arith, g .0, g .1, gap-small (d .counters .divider) (g .0) (omega (arith, g .1)));
+      still =
+          λ n t x y.
+          let g = divided-gap w d k p h n in
+          gap-still (d .counters .divider) t (g .0) x (omega (arith, g .1));
+    }
+
+-- The ticks ahead that `quietTicks` counts are such ticks, and no more than the limit.
+pub quiet-most : (boots : Bool) (limit : ℕ) (d : Device) → quietTicks boots limit d ≤ limit
+unfolding quietTicks
+quiet-most boots limit d =
+    let l : ℕ = above limit (d .cycle .left) in
+    let u : ℕ = above l (d .counters .pulse) in
+    pick-case (λ (k : ℕ). k ≤ limit) (asked boots (d .regs) && ltb (d .counters .startup) startupTicks) (omega arith)
+    (omega (arith, divided-most (watched u d) d, watched-most u d, above-most l (d .counters .pulse), above-most limit (d .cycle .left)))
+
+pub quiet-ahead :
+    (boots : Bool) (limit : ℕ) (d : Device) → alive d ≡ true → 0 < quietTicks boots limit d → Quiet boots (quietTicks boots limit d) d
+unfolding quietTicks
+quiet-ahead boots limit d a p =
+    by-cases (asked boots (d .regs) && ltb (d .counters .startup) startupTicks)
+    (λ e. let z : 0 < 0 = rw e at p in absurd (omega arith))
+    (λ e.
+    let g : 0 < divided (watched (above (above limit (d .cycle .left)) (d .counters .pulse)) d) d = rw e at p in
+    rw e (quiet-of boots limit _ d a e g (omega arith)))

@@ -1,0 +1,2 @@
+pub mod JumpLaws
+pub mod TurnLaws

@@ -1,0 +1,103 @@
+-- Laws of the code's turns: what the parts of the number of quiet ticks join to, that the counts of a jump fit their fields, and what
+-- a jump and a chip that is not alive do to a wait.
+-- Assumes nothing.
+use Prim.Native.Nat.{ℕ, _+_, _-_, _%_, _<_, _≤_}
+use mathlib.Core.Path.{_≡_, refl, sym, ap, subst, _∙_}
+use mathlib.Core.Bool.{Bool, true, false, _&&_}
+use mathlib.Core.List.{[]}
+use native.Mathlib.Omega.{arith}
+use lib.Dec.{ltb, eqb}
+use lib.ListN.{getD}
+use Rattle.base.specs.Words.{pick}
+use Rattle.base.proofs.Tests.{no, pick-when, both-left, both-right}
+use Rattle.record.specs.declared.Device.{Device}
+use Rattle.record.specs.declared.Counters.{Counters}
+use Rattle.record.specs.Registers.{watchdogAt, startupTicks}
+use Rattle.device.specs.Setters.{withCounters}
+use Rattle.device.specs.Oscillator.{asked}
+use Rattle.device.specs.World.{World, world}
+use Rattle.device.specs.Tick.{withLeft, alive, Waited, DeviceWaited, plusDevice, deviceWaited}
+use Rattle.device.proofs.WatchdogLaws.{period-most}
+use Rattle.device.proofs.WaitLaws.{WaitFrom, wait-dead, wait-both}
+use Rattle.waits.specs.Jump.{Quiet, counts, runs, jumped, above, watched, divided, quietTicks}
+use Rattle.waits.proofs.JumpLaws.{both-same, counters-same, wait-jump, quiet-most, quiet-ahead}
+
+-- the number of quiet ticks, from one limit to the next
+pub quiet-parts :
+    (boots : Bool) (limit : ℕ) (d : Device) {a b w r : ℕ}
+    → (asked boots (d .regs) && ltb (d .counters .startup) startupTicks) ≡ false
+    → a ≡ above limit (d .cycle .left) → b ≡ above a (d .counters .pulse) → w ≡ watched b d → r ≡ divided w d
+    → r ≡ quietTicks boots limit d
+unfolding quietTicks
+quiet-parts boots limit d e p q s t =
+    t ∙ ap (λ (n : ℕ). divided n d) (s ∙ ap (λ (n : ℕ). watched n d) (q ∙ ap (λ (n : ℕ). above n (d .counters .pulse)) p)) ∙ no _ _ e
+
+-- a number that the code got is quiet, where it is above 0, and no more than the limit
+pub quiet-got : (boots : Bool) (limit : ℕ) (d : Device) {k : ℕ} → alive d ≡ true → k ≡ quietTicks boots limit d → 0 < k → Quiet boots k d
+quiet-got boots limit d a e p =
+    subst (λ (n : ℕ). Quiet boots n d) (sym e) (quiet-ahead boots limit d a (subst (λ (n : ℕ). 0 < n) e p))
+
+pub quiet-within : (boots : Bool) (limit : ℕ) (d : Device) {k : ℕ} → k ≡ quietTicks boots limit d → k ≤ limit
+quiet-within boots limit d e = omega (arith, quiet-most boots limit d)
+
+-- the counts that a jump raises fit
+pub divider-fits :
+    (boots : Bool) (k : ℕ) (d : Device) → Quiet boots k d → d .counters .divider < 65536
+    → pick (runs d) (d .counters .divider + k) (d .counters .divider) < 65536
+divider-fits boots k d q h = pick-when (λ (n : ℕ). n < 65536) (runs d) (λ e. omega (arith, q .small e)) (λ e. h)
+
+pub watchdog-fits :
+    (boots : Bool) (k : ℕ) (d : Device) → Quiet boots k d → d .counters .watchdog < 4294967296
+    → pick (counts d && eqb (d .counters .delay) 0) (d .counters .watchdog + k) (d .counters .watchdog) < 4294967296
+watchdog-fits boots k d q h =
+    pick-when (λ (n : ℕ). n < 4294967296) (counts d && eqb (d .counters .delay) 0)
+    (λ e.
+    omega (
+      arith,
+      q .watchdog (both-left (counts d) (eqb (d .counters .delay) 0) e) (both-right (counts d) (eqb (d .counters .delay) 0) e),
+      period-most (getD (d .regs) watchdogAt 0),
+    ))
+    (λ e. h)
+
+lowered-fits : (t : Bool) (n k m : ℕ) → n < m → pick t (n - k) n < m
+lowered-fits t n k m h = pick-when (λ (x : ℕ). x < m) t (λ e. omega arith) (λ e. h)
+
+-- so the code's device is the jump's
+pub jump-made :
+    (boots : Bool) (k : ℕ) (d : Device) → Quiet boots k d
+    → d .cycle .left < 256 → d .counters .divider < 65536 → d .counters .watchdog < 4294967296 → d .counters .delay < 4294967296 → d .counters .pulse < 65536
+    → withCounters (withLeft d ((d .cycle .left - k) % 256))
+    (record {
+      divider = pick (runs d) (d .counters .divider + k) (d .counters .divider) % 65536;
+      startup = d .counters .startup;
+      watchdog = pick (counts d && eqb (d .counters .delay) 0) (d .counters .watchdog + k) (d .counters .watchdog) % 4294967296;
+      delay = pick (counts d) (d .counters .delay - k) (d .counters .delay) % 4294967296;
+      pulse = (d .counters .pulse - k) % 65536;
+    })
+    ≡ jumped k d
+unfolding jumped
+jump-made boots k d q l s w y p =
+    both-same d (omega arith)
+    (counters-same (omega (arith, divider-fits boots k d q s)) refl (omega (arith, watchdog-fits boots k d q w))
+    (omega (arith, lowered-fits (counts d) (d .counters .delay) k 4294967296 y)) (omega arith))
+
+-- a jump leaves the chip alive
+pub jumped-alive : (k : ℕ) (d : Device) → alive (jumped k d) ≡ alive d
+unfolding jumped
+jumped-alive k d = refl
+
+-- a loop that counts the ticks left down may jump
+pub loop-jumps :
+    (boots : Bool) (n : ℕ) (first : Device) (left : ℕ) (d : Device) (k : ℕ) → k ≤ left → left ≤ n → Quiet boots k d
+    → WaitFrom boots n first left d → WaitFrom boots n first (left - k) (jumped k d)
+loop-jumps boots n first left d k h l q p =
+    let m : left ≡ left - k + k = omega arith in
+    let rest : DeviceWaited = deviceWaited boots (left - k) (jumped k d) in
+    p ∙ ap (λ (j : ℕ). plusDevice (n - left) (deviceWaited boots j d)) m ∙ ap (plusDevice (n - left)) (wait-jump boots k (left - k) d q)
+    ∙ ap (λ (j : ℕ). record { used = j; device = rest .device }) (omega arith)
+
+-- a chip that is not alive waits all the ticks, and nothing changes
+pub device-wait-dead : (boots : Bool) (n : ℕ) (d : Device) → alive d ≡ false → deviceWaited boots n d ≡ record { used = n; device = d }
+device-wait-dead boots n d a =
+    let w : World = world d [] [] in
+    wait-both boots n w ∙ ap (λ (r : Waited). record { used = r .used; device = r .after .device }) (wait-dead boots n w a)

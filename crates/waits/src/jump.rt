@@ -1,0 +1,146 @@
+// Ticks in which only counts move, taken at once.
+use device::registers::SECONDS;
+use device::registers::WATCHDOG;
+use record::Cycle;
+use record::Device;
+use record::range::STARTUP_TICKS;
+ghost use mathlib.Core.Path.{_≡_};
+ghost use Prim.Native.Nat.{_+_, _-_, _<_, min};
+ghost use Rattle.base.specs.Words.{pick};
+ghost use Rattle.waits.specs.Jump.{counts, runs, jumped, above, watched, gap, divided, Quiet, quietTicks};
+
+// A count that falls by k, down to 0.
+fn fallen(n: u64, k: u64) -> u64
+    ensures { λ r. ⌜ r ≡ n - k ⌝ }
+{
+    if n < k { 0 } else { n - k }
+}
+
+fn least(a: u64, b: u64) -> u64
+    ensures { λ r. ⌜ r ≡ min a b ⌝ }
+{
+    if a < b { a } else { b }
+}
+
+// The watchdog counts.
+fn watchdog_counts(d: Device) -> bool
+    ensures { λ r. ⌜ r ≡ counts d ⌝ }
+{
+    let c = d.counters;
+    let v = d.regs[WATCHDOG];
+    ((v / 128 % 2 == 1) & !(v / 64 % 2 == 1)) & (c.startup == STARTUP_TICKS)
+}
+
+// Divider and calendar run.
+fn clock_runs(d: Device) -> bool
+    ensures { λ r. ⌜ r ≡ runs d ⌝ }
+{
+    let c = d.counters;
+    (c.startup == STARTUP_TICKS) & (d.regs[SECONDS] / 128 % 2 == 1)
+}
+
+// How far a count may fall and stay above 0.
+fn stays_above(limit: u64, n: u64) -> u64
+    ensures { λ r. ⌜ r ≡ above limit n ⌝ }
+{
+    if n == 0 {
+        return limit;
+    }
+    least(limit, n - 1)
+}
+
+fn watchdog_quiet(limit: u64, d: Device) -> u64
+    ensures { λ r. ⌜ r ≡ watched limit d ⌝ }
+{
+    let c = d.counters;
+    let counting = watchdog_counts(d);
+    if counting {
+        if c.delay == 0 {
+            let most = record::range::period(d.regs[WATCHDOG]) as u64;
+            return least(limit, fallen(most - 1, c.watchdog as u64));
+        }
+        return least(limit, c.delay as u64 - 1);
+    }
+    limit
+}
+
+// How many ticks from a divider on advance no hundredth.
+fn hundredth_gap(s: u64) -> u64
+    requires { ⌜ s < 32768 ⌝ }
+    ensures { λ r. ⌜ r ≡ gap s ⌝ }
+{
+    let q = 100 * s / 32768 + 1;
+    fallen((q * 32768 - 1) / 100, s)
+}
+
+fn divider_quiet(limit: u64, d: Device) -> u64
+    ensures { λ r. ⌜ r ≡ divided limit d ⌝ }
+{
+    let c = d.counters;
+    let running = clock_runs(d);
+    if running {
+        let s = c.divider as u64;
+        if s < 32768 {
+            return least(limit, hundredth_gap(s));
+        }
+        return 0;
+    }
+    limit
+}
+
+// How many ticks ahead, at most limit, in which only counts move.
+pub fn quiet_ticks(boots: bool, limit: u64, d: Device) -> u64
+    ensures { λ r. ⌜ r ≡ quietTicks boots limit d ⌝ }
+{
+    let c = d.counters;
+    let y = d.cycle;
+    let asked = boots | (d.regs[SECONDS] / 128 % 2 == 1);
+    if asked & (c.startup < STARTUP_TICKS) {
+        return 0;
+    }
+    let a = stays_above(limit, y.left as u64);
+    let b = stays_above(a, c.pulse as u64);
+    let w = watchdog_quiet(b, d);
+    divider_quiet(w, d)
+}
+
+fn raised(go: bool, n: u64, k: u64) -> u64
+    requires { ⌜ pick go (n + k) n < 4294967296 ⌝ }
+    ensures { λ r. ⌜ r ≡ pick go (n + k) n ⌝ }
+{
+    if go { n + k } else { n }
+}
+
+fn lowered(go: bool, n: u64, k: u64) -> u64
+    ensures { λ r. ⌜ r ≡ pick go (n - k) n ⌝ }
+{
+    if go { fallen(n, k) } else { n }
+}
+
+// The device after k such ticks.
+pub fn jump(boots: bool, k: u64, d: Device) -> Device
+    requires { ⌜ Quiet boots k d ⌝ }
+    ensures { λ r. ⌜ r ≡ jumped k d ⌝ }
+{
+    let counting = watchdog_counts(d);
+    let running = clock_runs(d);
+    let old = d.counters;
+    let y = d.cycle;
+    let target = y.target;
+    let left = (fallen(y.left as u64, k) % 256) as u8;
+    let divider = (raised(running, old.divider as u64, k) % 65536) as u16;
+    let watchdog = (raised(counting & (old.delay == 0), old.watchdog as u64, k)
+        % 4294967296) as u32;
+    let delay = (lowered(counting, old.delay as u64, k) % 4294967296) as u32;
+    let pulse = (fallen(old.pulse as u64, k) % 65536) as u16;
+    let mut counters = old;
+    counters.divider = divider;
+    counters.watchdog = watchdog;
+    counters.delay = delay;
+    counters.pulse = pulse;
+    let cycle = Cycle { target, left };
+    let mut next = d;
+    next.counters = counters;
+    next.cycle = cycle;
+    next
+}
