@@ -16,3 +16,4 @@ pub mod StepAgrees
 pub mod DemandThree
 pub mod ChangeLaws
 pub mod RunLaws
+pub mod TurnLaws

@@ -35,7 +35,7 @@ byte-selected false e = absurd (omega arith)
 
 done-agrees :
     (s : World) (part : ℕ) (w : World) (l : Ledger) (act : Act) (n : ℕ) → isPart part ≡ true → Agree s part w l → refusalIn part act n w ≡ 0
-    → Agree s part (accepted part n w act .after) (ledger.done part (named act) n (usedBy act (accepted part n w act)) l)
+    → Agree s part (accepted part n w act .after) (ledger.done part (named act) n (usedBy act (accepted part n w act .count)) l)
 done-agrees s part w l Select n p a z =
     let k = accepted-kept part Select n w (a .range) (a .shaped) z in
     select-agrees s part w l a (k .range) (k .shaped)

@@ -12,7 +12,7 @@ use Rattle.record.specs.declared.Act.the-variants.{Select, Byte, End, Wait, Cut
 use Rattle.record.specs.Part.{isPart, sizeOf, idSize}
 use Rattle.record.specs.Fresh.{fresh}
 use Rattle.device.specs.World.{World, world}
-use Rattle.acts.specs.Act.{Outcome, performed}
+use Rattle.acts.specs.Act.{performed}
 use Rattle.ledger.specs.State.{Step, Memory, eeprom, id, Ledger, start}
 use Rattle.ledger.specs.Bytes.{byteOf}
 use Rattle.ledger.specs.Steps.{ledgerRun}
@@ -31,18 +31,18 @@ pub record Stepped : Type 0 where
 abbrev pub Chip : Type 0
 Chip = ℕ → Act → ℕ → World → Stepped
 
--- the ticks that an act used, of its outcome: a refused wait's count is 0
-abbrev pub usedBy : Act → Outcome → ℕ
-usedBy Select o = 0
-usedBy Byte o = 0
-usedBy End o = 0
-usedBy Wait o = o .count
-usedBy Cut o = 0
-usedBy Up o = 0
+-- the ticks that an act used, of the count that it is answered: a refused wait's count is 0
+abbrev pub usedBy : Act → ℕ → ℕ
+usedBy Select count = 0
+usedBy Byte count = 0
+usedBy End count = 0
+usedBy Wait count = count
+usedBy Cut count = 0
+usedBy Up count = 0
 
 -- our chip: the definition that `perform` is proved equal to
 unfoldable pub ourChip : Chip
-ourChip part act n w = record { used = usedBy act (performed part act n w); after = performed part act n w .after }
+ourChip part act n w = record { used = usedBy act (performed part act n w .count); after = performed part act n w .after }
 
 -- a chip's act as the ledger names it
 abbrev pub named : Act → Rattle.ledger.specs.State.Act

@@ -1,28 +1,27 @@
 -- A list of acts as slices: act codes, their numbers, and lent slices for the numbers answered and the ticks used. What the function `run`
 -- gives, refused or not.
 -- Assumes nothing.
-use Prim.Native.Nat.{ℕ, zero, suc, _+_, min}
+use Prim.Native.Nat.{ℕ, zero, suc, min}
 use mathlib.Core.Path.{_≡_}
-use mathlib.Core.Bool.{Bool, true, false, not, _||_}
+use mathlib.Core.Bool.{false, not}
 use mathlib.Core.List.{List, [], _∷_, _++_}
-use lib.Dec.{ltb, eqb}
+use lib.Dec.{ltb}
 use lib.ListN.{length, drop}
 use Rattle.base.specs.Words.{pick}
-use Rattle.record.specs.declared.Device.{Device}
 use Rattle.record.specs.Part.{isPart}
-use Rattle.record.specs.Refusal.{wrongLength}
+use Rattle.record.specs.Refusal.{wrongLength, firstRefusal}
 use Rattle.record.specs.Fresh.{fresh}
 use Rattle.record.specs.Numbers.{actOf}
 use Rattle.device.specs.World.{World, world}
 use Rattle.acts.specs.Act.{performed}
-use Rattle.ledger.specs.State.{Step, Ledger, start}
+use Rattle.ledger.specs.State.{Step, start}
 use Rattle.ledger.specs.Steps.{ledgerRun}
 use Rattle.run.specs.declared.Ran.{Ran}
-use Rattle.run.specs.Claim.{Input, Stepped, Accounted, ourChip, worldAfter, fed, stepOf, freshWorld, named}
+use Rattle.run.specs.Claim.{Input, Accounted, ourChip, worldAfter, freshWorld, named}
 
--- 3 for a part that is none, 4 for a memory's length that is not the part's, as in the table
+-- a run is refused by the first two rows of the table: 3 for a part that is none, 4 for a memory's length that is not the part's
 abbrev pub refusesRun : ℕ → ℕ → ℕ → ℕ
-refusesRun part ee id = pick (not (isPart part)) 3 (pick (wrongLength part ee id) 4 0)
+refusesRun part ee id = firstRefusal (not (isPart part)) (wrongLength part ee id) false false false 0
 
 -- the acts that are performed: the longest prefix for which there is a number, room for both answers, and a code that names an act
 unfoldable pub inputsOf : List ℕ → List ℕ → ℕ → List Input
@@ -32,11 +31,15 @@ inputsOf (c ∷ cs) (n ∷ ns) zero = []
 inputsOf (c ∷ cs) (n ∷ ns) (suc room) =
     pick (ltb c 6) (record { act = actOf c; number = n } ∷ inputsOf cs ns room) []
 
+-- the same of the slices that are lent
+abbrev pub inputsIn : List ℕ → List ℕ → List ℕ → List ℕ → List Input
+inputsIn codes ns answers used = inputsOf codes ns (min (length answers) (length used))
+
 -- the numbers that the acts are answered, and the ticks that they use
 unfoldable pub numbersOf : ℕ → List Input → World → List ℕ
 numbersOf part [] w = []
 numbersOf part (x ∷ xs) w =
-    performed part (x .act) (x .number) w .number ∷ numbersOf part xs (performed part (x .act) (x .number) w .after)
+    performed part (x .act) (x .number) w .number ∷ numbersOf part xs (ourChip part (x .act) (x .number) w .after)
 
 unfoldable pub ticksOf : ℕ → List Input → World → List ℕ
 ticksOf part [] w = []
@@ -49,9 +52,17 @@ stepsOf [] us = []
 stepsOf (x ∷ xs) [] = []
 stepsOf (x ∷ xs) (u ∷ us) = record { act = named (x .act); number = x .number; used = u } ∷ stepsOf xs us
 
--- the list at its start replaced
+-- a list whose start is replaced; past the acts that were performed nothing changes
 abbrev pub over : List ℕ → List ℕ → List ℕ
 over xs l = xs ++ drop (length xs) l
+
+-- what a list of acts on a chip leaves: record and memories, how many acts, the numbers answered and the ticks used are what the
+-- definitions give
+pub record Performed (part : ℕ) (xs : List Input) (answers answers′ used used′ : List ℕ) (w w′ : World) (n : ℕ) : Type 0 where
+  pub after : w′ ≡ worldAfter ourChip part xs w
+  pub count : n ≡ length xs
+  pub numbers : answers′ ≡ over (numbersOf part xs w) answers
+  pub ticks : used′ ≡ over (ticksOf part xs w) used
 
 -- what a run leaves: in the slices before and after, and its answer
 pub record Run (part : ℕ) (codes ns answers answers′ used used′ ee ee′ id id′ : List ℕ) (r : Ran) : Type 0 where
@@ -60,16 +71,14 @@ pub record Run (part : ℕ) (codes ns answers answers′ used used′ ee ee′ i
       (refusesRun part (length ee) (length id) ≡ 0 → ⊥)
       → (r .number ≡ refusesRun part (length ee) (length id)) × (r .count ≡ 0) × (r .device ≡ fresh)
       × (answers′ ≡ answers) × (used′ ≡ used) × (ee′ ≡ ee) × (id′ ≡ id)
-  -- done: record, memories, numbers and ticks are what the definitions give
+  -- done: the acts are performed, from a fresh chip
   pub done :
       refusesRun part (length ee) (length id) ≡ 0
-      → let xs : List Input = inputsOf codes ns (min (length answers) (length used)) in
-      (r .number ≡ 0) × (r .count ≡ length xs)
-      × (world (r .device) ee′ id′ ≡ worldAfter ourChip part xs (freshWorld part))
-      × (answers′ ≡ over (numbersOf part xs (freshWorld part)) answers)
-      × (used′ ≡ over (ticksOf part xs (freshWorld part)) used)
+      → (r .number ≡ 0)
+      × Performed part (inputsIn codes ns answers used) answers answers′ used used′
+      (freshWorld part) (world (r .device) ee′ id′) (r .count)
   -- demand 3, of the memories at exit, by the acts and the ticks at exit alone
   pub demandThree :
       refusesRun part (length ee) (length id) ≡ 0
-      → let xs : List Input = inputsOf codes ns (min (length answers) (length used)) in
-      Accounted part (world (r .device) ee′ id′) (ledgerRun part (stepsOf xs used′) start)
+      → Accounted part (world (r .device) ee′ id′)
+      (ledgerRun part (stepsOf (inputsIn codes ns answers used) used′) start)
