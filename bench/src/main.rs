@@ -84,6 +84,12 @@ fn modelled(part: u64, codes: &[u8], numbers: &[u64]) -> (Answers, Duration) {
 }
 
 fn compare(name: &str, per: usize, part: u64, acts: &[(u8, u64)]) {
+    // An argument picks the cases whose name has it.
+    if let Some(word) = std::env::args().nth(1) {
+        if !name.contains(&word) {
+            return;
+        }
+    }
     let codes: Vec<u8> = acts.iter().map(|a| a.0).collect();
     let numbers: Vec<u64> = acts.iter().map(|a| a.1).collect();
     let mut best = [Duration::MAX; 2];

@@ -242,7 +242,7 @@ above-most limit n = pick-case (λ (k : ℕ). k ≤ limit) (eqb n 0) (omega arit
 above-less : (limit n k : ℕ) → 0 < k → k ≤ above limit n → (n ≡ 0) ⊎ (k < n)
 above-less limit n k p h =
     by-cases (eqb n 0) (λ z. inl (eqb-true n 0 z))
-    (λ z. inr (let g : k ≤ min limit (n - 1) = rw z at h in omega arith))
+    (λ z. inr (let g = rw z at h in omega arith))
 
 watched-most : (limit : ℕ) (d : Device) → watched limit d ≤ limit
 watched-most limit d =
@@ -251,13 +251,13 @@ watched-most limit d =
 
 watched-delay :
     (limit : ℕ) (d : Device) (k : ℕ) → 0 < k → k ≤ watched limit d → counts d ≡ true → eqb (d .counters .delay) 0 ≡ false → k < d .counters .delay
-watched-delay limit d k p h n z = let g : k ≤ min limit (d .counters .delay - 1) = rw (n, z) at h in omega arith
+watched-delay limit d k p h n z = let g = rw (n, z) at h in omega arith
 
 watched-count :
     (limit : ℕ) (d : Device) (k : ℕ) → 0 < k → k ≤ watched limit d → counts d ≡ true → eqb (d .counters .delay) 0 ≡ true
     → d .counters .watchdog + k < periodOf (getD (d .regs) watchdogAt 0)
 watched-count limit d k p h n z =
-    let g : k ≤ min limit (periodOf (getD (d .regs) watchdogAt 0) - 1 - d .counters .watchdog) = rw (n, z) at h in omega arith
+    let g = rw (n, z) at h in omega arith
 
 divided-most : (limit : ℕ) (d : Device) → divided limit d ≤ limit
 divided-most limit d =
@@ -270,7 +270,7 @@ divided-gap :
 divided-gap limit d k p h n =
     by-cases (ltb (d .counters .divider) dividerTicks)
     (λ z.
-    let g : k ≤ min limit (gap (d .counters .divider)) = rw (n, z) at h in
+    let g = rw (n, z) at h in
     (ltb-true (d .counters .divider) dividerTicks z, omega arith))
     (λ z. let g : k ≤ 0 = rw (n, z) at h in absurd (omega arith))
 

@@ -33,7 +33,7 @@ jump-requires : tie.Need-jump-requires Inv-loop μ-loop
 jump-requires c κs = quiet-got _ _ _ (c .before .before .before .loop .inv .1) (c .before .quiet-ticks .ensures) (c .if2 .taken)
 
 sub-left : tie.Need-sub-left Inv-loop μ-loop
-sub-left c = quiet-within _ _ _ (c .before .before .quiet-ticks .ensures)
+sub-left c = let w = quiet-within _ _ _ (c .before .before .quiet-ticks .ensures) in omega arith
 
 loop-again : tie.Need-loop-again Inv-loop μ-loop
 loop-again c =
