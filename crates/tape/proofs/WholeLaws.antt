@@ -1,0 +1,147 @@
+-- Laws of a whole tape: fed byte by byte and ended, it answers line by line; what lay in the memories before its part tells nothing; and
+-- how many bytes a call takes.
+-- Assumes nothing.
+use mathlib.Core.Path.{_≡_, refl, sym, ap, _∙_}
+use mathlib.Core.Bool.{Bool, true, false, _&&_, and-false}
+use mathlib.Core.List.{List, [], _∷_, _++_, append-nil, append-assoc}
+use Prim.Native.Nat.{ℕ, zero, suc, _+_, _-_, _<_, _≤_, suc-le-suc}
+use native.Mathlib.Nat.{not-suc-le-zero}
+use native.Mathlib.Omega.{arith}
+use borrow.Author.Tests.{le-ltb, eqb-true, eq-eqb, ne-eqb}
+use lib.Dec.{ltb, eqb}
+use lib.ListN.{length, take, length-append}
+use Rattle.base.specs.Words.{pick}
+use Rattle.base.proofs.Tests.{by-cases, yes, no, pick-case}
+use Rattle.record.specs.Part.{isPart}
+use Rattle.device.specs.World.{World}
+use Rattle.tape.specs.declared.Request.{Request}
+use Rattle.tape.specs.declared.Request.the-variants.{PartLine, ActLine, Bad}
+use Rattle.tape.specs.Request.{requestOf}
+use Rattle.tape.specs.Print.{newline, answerRoom, z}
+use Rattle.tape.specs.Answer.{Setup, setup, Answered, answer, refusedLine, freshSetup, requestAnswer, lineAnswer, answerText}
+use Rattle.tape.specs.Tape.{lastLine, linesFrom, answersTo, tapeAnswers, emptySetup, State, state, kept, keptLimit, Fed, fedTo, ended, fedByte, after, fed, finished, answersFrom, takenWithin}
+use Rattle.tape.specs.Steps.{setupAfter}
+use Rattle.tape.proofs.TapeLaws.{kept-join, kept-answers, fed-none}
+
+-- the end of a tape answers its last line
+last-answers : (s : Setup) (b : List ℕ) → finished (state s (kept b)) .answers ≡ answersTo s (lastLine b)
+unfolding finished answersTo
+last-answers s [] = refl
+last-answers s (c ∷ b) =
+    simp (ne-eqb (suc (length (take 64 b))) 0 (λ e. omega arith))
+    (ap answerText (kept-answers (c ∷ b) s) ∙ sym (append-nil (answerText (lineAnswer (c ∷ b) s))))
+
+last-setup : (s : Setup) (b : List ℕ) → finished (state s (kept b)) .after .setup ≡ setupAfter s (lastLine b)
+unfolding finished setupAfter
+last-setup s [] = refl
+last-setup s (c ∷ b) =
+    simp (ne-eqb (suc (length (take 64 b))) 0 (λ e. omega arith)) (ap (λ (a : Answered). a .after) (kept-answers (c ∷ b) s))
+
+lines-none : (b : List ℕ) → lastLine b ≡ linesFrom b []
+unfolding linesFrom
+lines-none b = refl
+
+-- a byte that ends a line, and one that does not
+fed-end : (x : ℕ) (bytes : List ℕ) (s : State) → eqb x newline ≡ true → fed s (x ∷ bytes) ≡ after (ended s .answers) (fed (ended s .after) bytes)
+unfolding fed
+fed-end x bytes s t = ap (λ (f : Fed). after (f .answers) (fed (f .after) bytes)) (sym (yes _ _ t))
+
+fed-more :
+    (x : ℕ) (bytes : List ℕ) (s : Setup) (b : List ℕ) → eqb x newline ≡ false
+    → fed (state s (kept b)) (x ∷ bytes) ≡ fed (state s (kept (b ++ (x ∷ [])))) bytes
+unfolding fed
+fed-more x bytes s b t =
+    ap (λ (f : Fed). after (f .answers) (fed (f .after) bytes)) (sym (no _ _ t))
+    ∙ ap (λ (r : List ℕ). fed (state s r) bytes) (kept-join b (x ∷ []))
+
+lines-end : (x : ℕ) (bytes b : List ℕ) → eqb x newline ≡ true → linesFrom b (x ∷ bytes) ≡ b ∷ linesFrom [] bytes
+unfolding linesFrom
+lines-end x bytes b t = sym (yes _ _ t)
+
+lines-more : (x : ℕ) (bytes b : List ℕ) → eqb x newline ≡ false → linesFrom b (x ∷ bytes) ≡ linesFrom (b ++ (x ∷ [])) bytes
+unfolding linesFrom
+lines-more x bytes b t = sym (no _ _ t)
+
+abbrev allOf : Fed → List ℕ
+allOf f = f .answers ++ finished (f .after) .answers
+
+abbrev endOf : Fed → Setup
+endOf f = finished (f .after) .after .setup
+
+-- fed byte by byte and ended, a tape answers line by line
+pub answers-lines : (bytes : List ℕ) (s : Setup) (b : List ℕ) → answersFrom (state s (kept b)) bytes ≡ answersTo s (linesFrom b bytes)
+unfolding answersTo
+answers-lines [] s b = ap allOf (fed-none (state s (kept b))) ∙ last-answers s b ∙ ap (answersTo s) (lines-none b)
+answers-lines (x ∷ bytes) s b =
+    by-cases (eqb x newline)
+    (λ t.
+    let a = lineAnswer (kept b) s in
+    let f = fed (state (a .after) []) bytes in
+    ap allOf (fed-end x bytes (state s (kept b)) t)
+    ∙ append-assoc (answerText a) (f .answers) (finished (f .after) .answers)
+    ∙ ap (λ (r : List ℕ). answerText a ++ r) (answers-lines bytes (a .after) [])
+    ∙ ap (λ (y : Answered). answerText y ++ answersTo (y .after) (linesFrom [] bytes)) (kept-answers b s)
+    ∙ ap (answersTo s) (sym (lines-end x bytes b t)))
+    (λ t. ap allOf (fed-more x bytes s b t) ∙ answers-lines bytes s (b ++ (x ∷ [])) ∙ ap (answersTo s) (sym (lines-more x bytes b t)))
+
+pub setup-lines :
+    (bytes : List ℕ) (s : Setup) (b : List ℕ) → finished (fed (state s (kept b)) bytes .after) .after .setup ≡ setupAfter s (linesFrom b bytes)
+unfolding setupAfter
+setup-lines [] s b = ap endOf (fed-none (state s (kept b))) ∙ last-setup s b ∙ ap (setupAfter s) (lines-none b)
+setup-lines (x ∷ bytes) s b =
+    by-cases (eqb x newline)
+    (λ t.
+    ap endOf (fed-end x bytes (state s (kept b)) t)
+    ∙ setup-lines bytes (lineAnswer (kept b) s .after) []
+    ∙ ap (λ (y : Answered). setupAfter (y .after) (linesFrom [] bytes)) (kept-answers b s)
+    ∙ ap (setupAfter s) (sym (lines-end x bytes b t)))
+    (λ t. ap endOf (fed-more x bytes s b t) ∙ setup-lines bytes s (b ++ (x ∷ [])) ∙ ap (setupAfter s) (sym (lines-more x bytes b t)))
+
+-- before a part the chip tells nothing
+same-choice : (g : Answered → List ℕ) (t : Bool) (x y u : Answered) → g y ≡ g u → g (pick t x y) ≡ g (pick t x u)
+same-choice g true x y u e = refl
+same-choice g false x y u e = e
+
+before-part :
+    (r : Request) (lines : List (List ℕ)) (v w : World) → answersTo (setup 0 v) lines ≡ answersTo (setup 0 w) lines
+    → answerText (requestAnswer r (setup 0 v)) ++ answersTo (requestAnswer r (setup 0 v) .after) lines
+    ≡ answerText (requestAnswer r (setup 0 w)) ++ answersTo (requestAnswer r (setup 0 w) .after) lines
+unfolding answerText
+before-part (PartLine n) lines v w e =
+    same-choice (λ (a : Answered). answerText a ++ answersTo (a .after) lines) (isPart n) (answer 0 z (freshSetup n)) (refusedLine 3 (setup 0 v))
+    (refusedLine 3 (setup 0 w)) (ap (λ (l : List ℕ). answerText (refusedLine 3 (setup 0 v)) ++ l) e)
+before-part (ActLine a n) lines v w e = ap (λ (l : List ℕ). answerText (refusedLine 7 (setup 0 v)) ++ l) e
+before-part Bad lines v w e = ap (λ (l : List ℕ). answerText (refusedLine 7 (setup 0 v)) ++ l) e
+
+pub before-any : (lines : List (List ℕ)) (v w : World) → answersTo (setup 0 v) lines ≡ answersTo (setup 0 w) lines
+unfolding answersTo lineAnswer
+before-any [] v w = refl
+before-any (line ∷ lines) v w = before-part (requestOf line) lines v w (before-any lines v w)
+
+-- the answers to a whole tape, as it comes
+pub tape-whole : (w : World) (bytes : List ℕ) → answersFrom (state (setup 0 w) []) bytes ≡ tapeAnswers bytes
+unfolding tapeAnswers
+tape-whole w bytes = answers-lines bytes (setup 0 w) [] ∙ before-any (linesFrom [] bytes) w (emptySetup .chip)
+
+-- how many bytes a call takes: no more than there are; some, where there is room for an answer; all, where all the answers have room
+pub taken-within : (bytes : List ℕ) (room : ℕ) (s : State) → takenWithin room s bytes ≤ length bytes
+unfolding takenWithin
+taken-within [] room s = omega arith
+taken-within (x ∷ bytes) room s =
+    pick-case (λ (n : ℕ). n ≤ suc (length bytes)) (eqb x newline && ltb room answerRoom) (omega arith)
+    (suc-le-suc (taken-within bytes (room - length (fedByte x s .answers)) (fedByte x s .after)))
+
+pub taken-some : (x : ℕ) (bytes : List ℕ) (room : ℕ) (s : State) → answerRoom ≤ room → 0 < takenWithin room s (x ∷ bytes)
+unfolding takenWithin
+taken-some x bytes room s h = simp (le-ltb room answerRoom h, and-false) (omega arith)
+
+pub taken-all :
+    (bytes : List ℕ) (room : ℕ) (s : State) → length (fed s bytes .answers) + answerRoom ≤ room → takenWithin room s bytes ≡ length bytes
+unfolding takenWithin fed
+taken-all [] room s h = refl
+taken-all (x ∷ bytes) room s h =
+    let a = fedByte x s .answers in
+    let f = fed (fedByte x s .after) bytes in
+    let l : length (a ++ f .answers) ≡ length a + length (f .answers) = length-append a (f .answers) in
+    simp (le-ltb room answerRoom (omega arith), and-false)
+    (ap suc (taken-all bytes (room - length a) (fedByte x s .after) (omega arith)))

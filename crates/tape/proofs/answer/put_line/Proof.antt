@@ -1,0 +1,51 @@
+-- `tape::answer::put_line` meets its contract.
+-- Assumes nothing.
+use mathlib.Core.Path.{_≡_, ap, _∙_}
+use mathlib.Core.Bool.{Bool, not, _||_}
+use lib.Dec.{eqb}
+use Rattle.device.specs.Lines.{irqLow, wdoLow}
+use Rattle.tape.specs.Text.{buffer, append}
+use Rattle.tape.specs.Print.{outOf, answerLine}
+use borrow.Author.Needs.{needs}
+use Rattle.tape.proofs.answer.put_line.Statement.{statement}
+use Rattle.tape.proofs.answer.put_line.Tie as tie
+
+irq-low-requires : tie.Need-irq-low-requires
+irq-low-requires c κs = search needs
+
+high-requires : tie.Need-high-requires
+high-requires c κs = search needs
+
+wdo-low-requires : tie.Need-wdo-low-requires
+wdo-low-requires c κs = search needs
+
+high-requires-2 : tie.Need-high-requires-2
+high-requires-2 c κs = search needs
+
+put-answer-requires : tie.Need-put-answer-requires
+put-answer-requires c κs = search needs
+
+same-length : tie.Need-same-length
+same-length c = search needs
+
+returns : tie.Need-returns
+returns c =
+    let a = c .before .before .before .before .before .before .before .before .before .args in
+    let i : c .before .before .before .before .before .before .high .result ≡ (eqb (a .part) 0 || not (irqLow (a .d))) =
+    c .before .before .before .before .before .before .high .ensures ∙ ap (λ (b : Bool). eqb (a .part) 0 || not b) (c .before .before .before .before .before .before .before .irq-low .ensures) in
+    let w : c .before .before .before .before .high2 .result ≡ (eqb (a .part) 0 || not (wdoLow (a .d))) =
+    c .before .before .before .before .high2 .ensures ∙ ap (λ (b : Bool). eqb (a .part) 0 || not b) (c .before .before .before .before .before .wdo-low .ensures) in
+    c .before .before .put-answer .ensures
+    ∙ (λ k. append (buffer (a .out .now) (a .at)) (answerLine (a .number) (outOf (a .number) (a .counted) (a .reply) (a .count)) (i k) (w k)))
+
+pub put-line-spec : {M : Type 1} → statement M
+put-line-spec =
+    tie.close
+    (tie.spec
+    irq-low-requires
+    high-requires
+    wdo-low-requires
+    high-requires-2
+    put-answer-requires
+    same-length
+    returns)
