@@ -168,9 +168,10 @@ pub fn period(v: u8) -> u32
 fn bit_outside(regs: [u8; 32]) -> bool
     ensures { λ r. ⌜ r ≡ bitOutside regs ⌝ }
 {
+    let kept = KEPT;
     let mut i: usize = 0;
     while i < 32 {
-        if (regs[i] & KEPT[i]) != regs[i] {
+        if (regs[i] & kept[i]) != regs[i] {
             return true;
         }
         i += 1;

@@ -12,10 +12,10 @@ use Rattle.record.proofs.range.bit_outside.Statement.{statement}
 use Rattle.record.proofs.range.bit_outside.Tie as tie
 
 abbrev Inv-loop : tie.InvT-loop
-Inv-loop regs i₀ i = (i ≤ 32) × (every (insideMask regs) i ≡ true)
+Inv-loop regs kept i₀ i = (i ≤ 32) × (every (insideMask regs) i ≡ true)
 
 abbrev μ-loop : tie.MeasureT-loop
-μ-loop regs i₀ i = 32 - i
+μ-loop regs kept i₀ i = 32 - i
 
 returns : tie.Need-returns Inv-loop μ-loop
 unfolding bitOutside
