@@ -1,10 +1,9 @@
-// What --help tells. Each text stands as it is written, from the left margin.
+// What --help tells, in five pieces. A text is written as it stands.
 
 fn print_use() -> bool {
     io::write_all(
         libc::STDOUT_FILENO,
-        b"\
-Use: mcp795 [TAPE...]
+        b"Use: mcp795 [TAPE...]
 
 Answers each tape as an MCP795XX clock chip would. A TAPE is a file, or - for
 standard input. With no TAPE, standard input is the tape. Each tape starts
@@ -14,9 +13,8 @@ A tape has a line for each act:
 
     op=NAME arg=N
 
-with one blank, nothing after N, at most 64 characters. N has 1 to 8 digits and
-no needless zero. The first line names the part.
-
+with one blank, nothing after N, and at most 64 characters. N has 1 to 8 digits
+and no needless zero. The first line names the part.
 ",
     )
 }
@@ -24,7 +22,7 @@ no needless zero. The first line names the part.
 fn print_acts() -> bool {
     io::write_all(
         libc::STDOUT_FILENO,
-        b"\
+        b"
     NAME    N              what happens
     part    1 to 4         a fresh chip: 1 W 1 Kbit, 2 W 2 Kbit, 3 B 1 Kbit,
                            4 B 2 Kbit; once, before all else
@@ -36,7 +34,6 @@ fn print_acts() -> bool {
     cut     0 to 255       power fails; of a page being written, the offsets
                            whose bit is set got stored
     up      0              power comes back
-
 ",
     )
 }
@@ -44,15 +41,15 @@ fn print_acts() -> bool {
 fn print_answers() -> bool {
     io::write_all(
         libc::STDOUT_FILENO,
-        b"\
+        b"
 Each line gives one answer, written before the program waits for more input:
 
     no=R out=V irq=L wdo=L
 
-    no   0: done. 1 to 7: refused, and nothing has changed
-    out  a byte's reply, a wait's ticks used, a cut's bytes stored; z: none
-    irq  wdo  the levels of the two lines after the act, 0 or 1
-
+    R  0: done; 1 to 7: refused, and nothing has changed
+    V  a byte's reply, the ticks that a wait used, how many bytes a cut stored;
+       z: none
+    L  the level of the line after the act, 0 or 1
 ",
     )
 }
@@ -60,7 +57,7 @@ Each line gives one answer, written before the program waits for more input:
 fn print_refusals() -> bool {
     io::write_all(
         libc::STDOUT_FILENO,
-        b"\
+        b"
     R  refused because
     1  select while selected
     2  byte or end while not selected
@@ -70,9 +67,8 @@ fn print_refusals() -> bool {
     6  the chip's record is out of range (no tape causes it)
     7  the line is not of the form, comes before a part, or names a part again
 
-Of several, the first in this order is given: 7, 3 for the part, 4, 6, 3, 5, and
-1 or 2.
-
+Of several reasons the first in this order is given: 7, 3 for the part, 4, 6, 3,
+5, then 1 or 2.
 ",
     )
 }
@@ -80,7 +76,7 @@ Of several, the first in this order is given: 7, 3 for the part, 4, 6, 3, 5, and
 fn print_problems() -> bool {
     io::write_all(
         libc::STDOUT_FILENO,
-        b"\
+        b"
 A tape that cannot be opened or read is told on standard error, with its name
 and the reason, and the next one is answered. Where standard output cannot be
 written, the program stops. The exit status is 0 all the same: look at standard
