@@ -12,12 +12,12 @@ use Rattle.record.specs.declared.Act.{Act}
 use Rattle.record.specs.declared.Act.the-variants.{Byte, End, Cut}
 use Rattle.record.specs.declared.Device.{Device}
 use Rattle.record.specs.Address.{pageOf}
-use Rattle.record.specs.InRange.{InRange}
+use Rattle.refusals.specs.InRange.{InRange}
 use Rattle.record.specs.Part.{sizeOf, idSize}
-use Rattle.record.specs.Range.{eepromAt, idAt, eepromIn, idIn}
-use Rattle.record.specs.Refusal.{refusalOf}
-use Rattle.record.proofs.RangeLaws.{in-range}
-use Rattle.record.proofs.TableLaws.{Accepted, accepted}
+use Rattle.record.specs.Stages.{eepromAt, idAt, eepromIn, idIn}
+use Rattle.refusals.specs.Refusal.{refusalOf}
+use Rattle.refusals.proofs.RangeLaws.{in-range}
+use Rattle.refusals.proofs.TableLaws.{Accepted, accepted}
 use Rattle.acts.proofs.PageLaws.{page-fits}
 
 -- a number that its row lets through is its own byte

@@ -11,8 +11,8 @@ use Rattle.record.specs.declared.Act.the-variants.{Select, Byte, End, Wait, Cut
 use Rattle.record.specs.declared.Device.{Device}
 use Rattle.record.specs.declared.Load.{Load}
 use Rattle.record.specs.Part.{isPart, topOf, bootsOf}
-use Rattle.record.specs.InRange.{InRange}
-use Rattle.record.proofs.TableLaws as table
+use Rattle.refusals.specs.InRange.{InRange}
+use Rattle.refusals.proofs.TableLaws as table
 use Rattle.device.specs.World.{World}
 use Rattle.device.specs.Tick.{waited}
 use Rattle.device.proofs.WaitLaws.{wait-spent}

@@ -12,7 +12,7 @@ use Rattle.record.specs.declared.Device.{Device}
 use Rattle.record.specs.declared.Reply.{Reply}
 use Rattle.record.specs.declared.Reply.the-variants.{Driven, Off}
 use Rattle.record.specs.Part.{topOf, bootsOf}
-use Rattle.record.specs.Refusal.{refusalOf}
+use Rattle.refusals.specs.Refusal.{refusalOf}
 use Rattle.device.specs.World.{World, world}
 use Rattle.device.specs.Tick.{Waited, waited}
 use Rattle.frames.specs.Frame.{nextReply, afterByte, afterSelect}

@@ -6,8 +6,8 @@ ghost use mathlib.Core.Path.{_≡_};
 ghost use Prim.Native.Nat.{_+_, _≤_};
 ghost use lib.ListN.{length};
 ghost use Rattle.record.specs.Address.{pageOf};
-ghost use Rattle.record.specs.Range.{eepromIn, idIn};
-ghost use Rattle.record.specs.Refusal.{refusalOf};
+ghost use Rattle.record.specs.Stages.{eepromIn, idIn};
+ghost use Rattle.refusals.specs.Refusal.{refusalOf};
 ghost use Rattle.device.specs.World.{world};
 ghost use Rattle.device.specs.Tick.{waited};
 ghost use Rattle.frames.specs.Power.{cutCount, cutWorld};
@@ -118,7 +118,7 @@ pub fn perform(
 ) -> Answer
     ensures { λ r. ⌜ answered r (now (eeprom .exit)) (now (id .exit)) ≡ performed part act number (world d (now (eeprom .entry)) (now (id .entry))) ⌝ }
 {
-    let refusal = record::refusal::refusal(part, act, number, d, eeprom.len(), id.len());
+    let refusal = refusals::refusal(part, act, number, d, eeprom.len(), id.len());
     if refusal != 0 {
         return silent(refusal, 0, d);
     }

@@ -6,7 +6,7 @@ ghost use Prim.Native.Nat.{_+_, _≤_};
 ghost use lib.ListN.{length};
 ghost use Rattle.base.specs.Words.{storeUnder};
 ghost use Rattle.record.specs.Address.{pageOf};
-ghost use Rattle.record.specs.Range.{eepromIn, idIn};
+ghost use Rattle.record.specs.Stages.{eepromIn, idIn};
 ghost use Rattle.device.specs.World.{eepromAfter, idAfter};
 
 // For each offset in the set, the byte at base + offset becomes that of bytes.

@@ -24,8 +24,8 @@ use Rattle.record.specs.declared.Cycle.{Cycle}
 use Rattle.record.specs.declared.ClockAddress.{ClockAddress}
 use Rattle.record.specs.Part.{sizeOf, bootsOf}
 use Rattle.record.specs.Registers.{secondsAt, watchdogAt, writable, kept, periodOf, cycleTicks, startupTicks, dividerTicks, longPulse, delayTicks}
-use Rattle.record.specs.Range.{selected, foreignToWip, idAt, idIn, eepromAt, eepromIn}
-use Rattle.record.specs.InRange.{InRange}
+use Rattle.record.specs.Stages.{selected, foreignToWip, idAt, idIn, eepromAt, eepromIn}
+use Rattle.refusals.specs.InRange.{InRange}
 use Rattle.device.specs.Registers.{afterWrite, writeClock}
 use Rattle.device.specs.Oscillator.{asked, oscillatorTick}
 use Rattle.device.specs.Watchdog.{counting, pulseTick, timeOut, countedTick, watchdogTick}

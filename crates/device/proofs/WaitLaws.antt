@@ -12,7 +12,7 @@ use lib.Dec.{ltb, leb, eqb}
 use Rattle.base.specs.Words.{pick}
 use Rattle.base.proofs.Tests.{by-cases, yes, no, both-left, both-right, neither, neither-left, neither-right, both-true, true-false}
 use Rattle.record.specs.declared.Device.{Device}
-use Rattle.record.specs.InRange.{InRange}
+use Rattle.refusals.specs.InRange.{InRange}
 use Rattle.device.specs.Lines.{irqLow, wdoLow, wip, differ, changed}
 use Rattle.device.specs.World.{World, eepromAfter, idAfter, protectionAfter}
 use Rattle.device.specs.Tick.{alive, tick, deviceTick, ends, Waited, plus, waited, ticks, DeviceWaited, plusDevice, deviceWaited, ended, settled}

@@ -1,7 +1,7 @@
 // The oscillator's part of a tick.
 use crate::registers::SECONDS;
 use record::Device;
-use record::range::STARTUP_TICKS;
+use record::limits::STARTUP_TICKS;
 ghost use mathlib.Core.Path.{_≡_};
 ghost use Rattle.device.specs.Oscillator.{oscillatorTick};
 

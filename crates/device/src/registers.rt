@@ -68,7 +68,7 @@ fn made_bits(d: Device, a: u8) -> u8
 {
     if a == 0x04 {
         let c = d.counters;
-        return bits_if(c.startup == record::range::STARTUP_TICKS, 0x20);
+        return bits_if(c.startup == record::limits::STARTUP_TICKS, 0x20);
     }
     if a == 0x06 {
         return bits_if(calendar::leap(d.regs[YEAR]), 0x20);
@@ -115,7 +115,7 @@ fn after_write(boots: bool, a: u8, v: u8, c: Counters) -> Counters
         let mut next = c;
         next.watchdog = 0;
         if (v / 128 % 2 == 1) & (v / 32 % 2 == 1) & !(v / 64 % 2 == 1) {
-            next.delay = record::range::DELAY_TICKS;
+            next.delay = record::limits::DELAY_TICKS;
             return next;
         }
         next.delay = 0;

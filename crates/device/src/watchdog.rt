@@ -2,8 +2,8 @@
 use crate::registers::WATCHDOG;
 use record::Counters;
 use record::Device;
-use record::range::LONG_PULSE;
-use record::range::SHORT_PULSE;
+use record::limits::LONG_PULSE;
+use record::limits::SHORT_PULSE;
 ghost use mathlib.Core.Path.{_≡_};
 ghost use Rattle.device.specs.Watchdog.{pulseTick, timeOut, countedTick, watchdogTick};
 
@@ -51,7 +51,7 @@ fn counted_tick(d: Device) -> Device
         next.counters = counters;
         return next;
     }
-    let most = record::range::period(d.regs[WATCHDOG]);
+    let most = record::limits::period(d.regs[WATCHDOG]);
     if counters.watchdog < most - 1 {
         counters.watchdog = counters.watchdog + 1;
         let mut next = d;

@@ -15,8 +15,8 @@ use Rattle.calendar.specs.Time.{dateOf, withDate, onDay, advanced}
 use Rattle.record.specs.declared.Act.the-variants.{Select, Byte, End, Wait, Cut, Up}
 use Rattle.record.specs.declared.Reply.the-variants.{Driven, Off}
 use Rattle.record.specs.Fresh.{fresh}
-use Rattle.record.specs.Range.{outOfRange, countersOut, frameOut, bitOutside}
-use Rattle.record.specs.Refusal.{refusalOf}
+use Rattle.refusals.specs.Range.{outOfRange, countersOut, frameOut, bitOutside}
+use Rattle.refusals.specs.Refusal.{refusalOf}
 use Rattle.device.specs.World.{World, world}
 use Rattle.device.specs.Registers.{readClock, writeClock, afterWrite}
 use Rattle.device.specs.Lines.{irqLow, wdoLow, changed, statusByte}

@@ -17,8 +17,8 @@ use Rattle.record.specs.declared.Stage.the-variants.{Idle, Opened, Unheard, Ins
 use Rattle.record.specs.declared.Target.{Target}
 use Rattle.record.specs.Part.{topOf, sizeOf, bootsOf}
 use Rattle.record.specs.Registers.{watchdogAt, cycleTicks}
-use Rattle.record.specs.Range.{idAt, idIn, eepromAt, eepromIn}
-use Rattle.record.specs.InRange.{InRange}
+use Rattle.record.specs.Stages.{idAt, idIn, eepromAt, eepromIn}
+use Rattle.refusals.specs.InRange.{InRange}
 use Rattle.device.proofs.WatchdogLaws.{period-least}
 use Rattle.device.proofs.RegisterLaws.{ClockIn, clock-in}
 use Rattle.frames.specs.End.{carried, targetAt, cycleAfter, clearsWatchdog, clearsRam, clearedCounters, afterEnd}

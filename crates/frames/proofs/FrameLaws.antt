@@ -26,8 +26,8 @@ use Rattle.record.specs.declared.Stage.the-variants.{Idle, Opened, Unheard, Ins
 use Rattle.record.specs.Address.{offsetOf}
 use Rattle.record.specs.Numbers.{codeOf}
 use Rattle.record.specs.Part.{topOf, bootsOf}
-use Rattle.record.specs.Range.{heardUnderWip, foreignToWip, idAt, eepromAt}
-use Rattle.record.specs.InRange.{InRange}
+use Rattle.record.specs.Stages.{heardUnderWip, foreignToWip, idAt, eepromAt}
+use Rattle.refusals.specs.InRange.{InRange}
 use Rattle.device.specs.Setters.{withStage, withLoad}
 use Rattle.device.specs.Lines.{wip}
 use Rattle.device.specs.Registers.{writeClock}

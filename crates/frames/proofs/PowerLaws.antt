@@ -21,8 +21,8 @@ use Rattle.record.specs.declared.Counters.{Counters}
 use Rattle.record.specs.Fresh.{fresh, freshRegs}
 use Rattle.record.specs.Part.{bootsOf}
 use Rattle.record.specs.Registers.{secondsAt, watchdogAt}
-use Rattle.record.specs.InRange.{InRange}
-use Rattle.record.proofs.RangeLaws.{fresh-facts}
+use Rattle.refusals.specs.InRange.{InRange}
+use Rattle.refusals.proofs.RangeLaws.{fresh-facts}
 use Rattle.device.specs.World.{World}
 use Rattle.device.proofs.WatchdogLaws.{period-least}
 use Rattle.device.proofs.RegisterLaws.{Inside, Halted, ClockIn, clock-in}

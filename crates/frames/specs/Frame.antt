@@ -16,7 +16,7 @@ use Rattle.record.specs.declared.Stage.the-variants.{Idle, Opened, Unheard, Ins
 use Rattle.record.specs.declared.Reply.{Reply}
 use Rattle.record.specs.declared.Reply.the-variants.{Driven, Off}
 use Rattle.record.specs.Address.{takenEeprom, rollEeprom, takenId, rollId, rollClock, offsetOf}
-use Rattle.record.specs.Range.{heardUnderWip}
+use Rattle.record.specs.Stages.{heardUnderWip}
 use Rattle.record.specs.Numbers.{codeOf}
 use Rattle.device.specs.Setters.{withStage, withLoad}
 use Rattle.device.specs.Registers.{readClock, writeClock}

@@ -52,7 +52,7 @@ fn cycle_after(top: u8, k: u8, d: Device) -> Cycle
         let target = target_at(old, stage);
         return Cycle {
             target,
-            left: record::range::CYCLE_TICKS,
+            left: record::limits::CYCLE_TICKS,
         };
     }
     y

@@ -11,7 +11,7 @@ use record::Stage;
 ghost use mathlib.Core.Path.{_≡_};
 ghost use Prim.Native.Nat.{_<_};
 ghost use lib.ListN.{length, getD};
-ghost use Rattle.record.specs.Range.{eepromAt, idAt};
+ghost use Rattle.record.specs.Stages.{eepromAt, idAt};
 ghost use Rattle.frames.specs.Frame.{instructionReply, nextReply, firstStage, secondStage, stageAfter, emptied, loadedWith, instructionLoad, loadAfter, writtenAt, afterByte, afterSelect};
 
 // The bit of each offset in a set of offsets.
@@ -80,7 +80,7 @@ pub fn next_reply(eeprom: &[u8], id: &[u8], d: Device) -> Reply
 fn first_stage(busy: bool, code: Code) -> Stage
     ensures { λ r. ⌜ r ≡ firstStage busy code ⌝ }
 {
-    let heard = record::range::heard_under_wip(code);
+    let heard = record::stages::heard_under_wip(code);
     if busy & !heard {
         return Stage::Unheard;
     }

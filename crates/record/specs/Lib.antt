@@ -1,9 +1,6 @@
 pub mod Part
 pub mod Registers
 pub mod Address
+pub mod Stages
 pub mod Numbers
 pub mod Fresh
-pub mod Range
-pub mod Refusal
-pub mod InRange
-pub mod Rows

@@ -4,10 +4,10 @@ ghost use mathlib.Core.Path.{_≡_};
 ghost use Rattle.record.specs.Address.{rollEeprom, takenEeprom, rollId, takenId, rollClock};
 ghost use Rattle.record.specs.Fresh.{fresh};
 
+pub mod limits; // limits.rt: the limits and the watchdog's periods
 pub mod number; // number.rt: the numbers of the enums' cases
 pub mod part; // part.rt: the four parts
-pub mod range; // range.rt: number 6
-pub mod refusal; // refusal.rt: the refusal table
+pub mod stages; // stages.rt: what a stage and a cycle's target tell
 
 // An address of the EEPROM.
 pub struct EepromAddress(pub u8);

@@ -20,8 +20,8 @@ use Rattle.record.specs.declared.Target.{Target}
 use Rattle.record.specs.declared.Target.the-variants.{Eeprom, Id, Status}
 use Rattle.record.specs.Part.{sizeOf, idSize}
 use Rattle.record.specs.Address.{pageOf}
-use Rattle.record.specs.Range.{selected}
-use Rattle.record.specs.InRange.{InRange}
+use Rattle.record.specs.Stages.{selected}
+use Rattle.refusals.specs.InRange.{InRange}
 use Rattle.record.specs.Numbers.{codeOf, protectionNumber}
 use Rattle.device.specs.World.{World}
 use Rattle.acts.specs.Shape.{Shaped}

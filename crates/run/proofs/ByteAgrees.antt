@@ -17,7 +17,7 @@ use Rattle.record.specs.declared.Code.the-variants.{Eeread, Eewrite, Eewrdi, Ee
 use Rattle.record.specs.declared.Stage.{Stage}
 use Rattle.record.specs.declared.Stage.the-variants.{Idle, Opened, Unheard, Instruction, EepromRead, EepromWrite, ClockRead, ClockWrite, IdRead, IdWrite, StatusWrite, StatusWriteMore, UnlockSecond, UnlockMore, WatchdogSecond, WatchdogMore, RamSecond, RamMore, EnableMore, DisableMore}
 use Rattle.record.specs.Part.{isPart, topOf}
-use Rattle.record.specs.Range.{selected, heardUnderWip, foreignToWip}
+use Rattle.record.specs.Stages.{selected, heardUnderWip, foreignToWip}
 use Rattle.record.specs.Numbers.{codeOf}
 use Rattle.frames.specs.Frame.{firstStage, secondStage, stageAfter, emptied, loadedWith, instructionLoad, loadAfter}
 use Rattle.ledger.specs.State as ledger

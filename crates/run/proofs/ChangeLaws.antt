@@ -20,7 +20,7 @@ use Rattle.record.specs.declared.Target.{Target}
 use Rattle.record.specs.declared.Target.the-variants.{Eeprom, Id, Status}
 use Rattle.record.specs.Part.{bootsOf}
 use Rattle.record.specs.Address.{pageOf}
-use Rattle.record.specs.InRange.{InRange}
+use Rattle.refusals.specs.InRange.{InRange}
 use Rattle.device.specs.World.{World, eepromAfter, idAfter}
 use Rattle.device.specs.Tick.{Waited, waited}
 use Rattle.device.proofs.WaitLaws.{Spent, Unended, wait-spent}

@@ -11,7 +11,7 @@ use Rattle.base.proofs.Tests.{by-cases, pick-when}
 use Rattle.record.specs.declared.Code.{Code}
 use Rattle.record.specs.declared.Code.the-variants.{Eeread, Eewrite, Eewrdi, Eewren, Srread, Srwrite, Read, Write, Unlock, Idwrite, Idread, Clrwdt, Clrram, Other}
 use Rattle.record.specs.Numbers.{codeOf, codeNumber}
-use Rattle.record.specs.Range.{heardUnderWip}
+use Rattle.record.specs.Stages.{heardUnderWip}
 use Rattle.ledger.specs.State as ledger
 use Rattle.ledger.specs.Frames.{SRREAD, READ, WRITE, CLRWDT, CLRRAM, running, heardAt}
 use Rattle.run.proofs.Agree.{CodeAgrees}

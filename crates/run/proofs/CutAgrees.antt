@@ -7,8 +7,8 @@ use native.Mathlib.Omega.{arith}
 use lib.ListN.{length, getD}
 use Rattle.record.specs.Part.{sizeOf, idSize}
 use Rattle.record.specs.Address.{pageOf}
-use Rattle.record.specs.Range.{eepromIn, idIn}
-use Rattle.record.specs.InRange.{InRange}
+use Rattle.record.specs.Stages.{eepromIn, idIn}
+use Rattle.refusals.specs.InRange.{InRange}
 use Rattle.device.specs.World.{World}
 use Rattle.frames.specs.Power.{afterCut, cutWorld}
 use Rattle.ledger.specs.State.{Ledger, noByte, noCycle}

@@ -9,8 +9,8 @@ use Rattle.base.specs.Words.{pick}
 use Rattle.record.specs.declared.Guard.{Guard}
 use Rattle.record.specs.declared.Cycle.{Cycle}
 use Rattle.record.specs.Part.{isPart, topOf, bootsOf}
-use Rattle.record.specs.Range.{selected}
-use Rattle.record.specs.InRange.{InRange}
+use Rattle.record.specs.Stages.{selected}
+use Rattle.refusals.specs.InRange.{InRange}
 use Rattle.record.specs.Numbers.{protectionNumber}
 use Rattle.device.specs.World.{World}
 use Rattle.device.specs.Lines.{wip}

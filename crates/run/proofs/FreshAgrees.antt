@@ -6,7 +6,7 @@ use native.Mathlib.Omega.{arith}
 use lib.ListN.{length, getD, length-replicate, getD-replicate}
 use Rattle.record.specs.Part.{sizeOf, idSize}
 use Rattle.record.specs.Fresh.{fresh}
-use Rattle.record.proofs.RangeLaws.{fresh-facts}
+use Rattle.refusals.proofs.RangeLaws.{fresh-facts}
 use Rattle.ledger.specs.State.{start, noByte, noCycle}
 use Rattle.ledger.specs.Bytes.{byteOf}
 use Rattle.run.specs.Claim.{freshWorld}

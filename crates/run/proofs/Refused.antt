@@ -13,9 +13,10 @@ use Rattle.base.proofs.Tests.{by-cases, pick-case}
 use Rattle.record.specs.declared.Act.{Act}
 use Rattle.record.specs.declared.Act.the-variants.{Select, Byte, End, Wait, Cut, Up}
 use Rattle.record.specs.Part.{isPart, sizeOf, idSize}
-use Rattle.record.specs.Range.{selected, outOfRange}
-use Rattle.record.specs.Refusal.{wrongLength, wrongNumber, wrongPower, wrongSelect, refusalOf}
-use Rattle.record.proofs.RangeLaws.{out-of-range}
+use Rattle.record.specs.Stages.{selected}
+use Rattle.refusals.specs.Range.{outOfRange}
+use Rattle.refusals.specs.Refusal.{wrongLength, wrongNumber, wrongPower, wrongSelect, refusalOf}
+use Rattle.refusals.proofs.RangeLaws.{out-of-range}
 use Rattle.device.specs.World.{World}
 use Rattle.acts.specs.Act.{refusalIn}
 use Rattle.ledger.specs.State.{Ledger}

@@ -12,7 +12,7 @@ use Rattle.base.proofs.Tests.{by-cases, pick-when}
 use Rattle.record.specs.declared.Act.{Act}
 use Rattle.record.specs.declared.Act.the-variants.{Select, Byte, End, Wait, Cut, Up}
 use Rattle.record.specs.Part.{isPart}
-use Rattle.record.specs.InRange.{InRange}
+use Rattle.refusals.specs.InRange.{InRange}
 use Rattle.device.specs.World.{World}
 use Rattle.acts.specs.Act.{Outcome, accepted, refused, refusalIn, performed}
 use Rattle.ledger.specs.State.{start}

@@ -12,9 +12,9 @@ use Rattle.base.proofs.Tests.{by-cases}
 use Rattle.record.specs.declared.Act.{Act}
 use Rattle.record.specs.declared.Act.the-variants.{Select, Byte, End, Wait, Cut, Up}
 use Rattle.record.specs.Part.{isPart, bootsOf}
-use Rattle.record.specs.Range.{selected}
-use Rattle.record.specs.InRange.{InRange}
-use Rattle.record.proofs.TableLaws as table
+use Rattle.record.specs.Stages.{selected}
+use Rattle.refusals.specs.InRange.{InRange}
+use Rattle.refusals.proofs.TableLaws as table
 use Rattle.device.specs.World.{World}
 use Rattle.acts.specs.Act.{Outcome, accepted, refusalIn, performed}
 use Rattle.acts.specs.Shape.{Shaped}

@@ -17,7 +17,7 @@ use Rattle.record.specs.declared.Target.{Target}
 use Rattle.record.specs.declared.Target.the-variants.{Eeprom, Id, Status}
 use Rattle.record.specs.Part.{sizeOf, idSize}
 use Rattle.record.specs.Address.{pageOf}
-use Rattle.record.specs.Range.{eepromIn, idIn}
+use Rattle.record.specs.Stages.{eepromIn, idIn}
 use Rattle.record.specs.Numbers.{protectionNumber}
 use Rattle.device.specs.World.{eepromAfter, idAfter, protectionAfter}
 use Rattle.ledger.specs.State.{Memory, eeprom, id, Entry, Kind, eepromCycle, idCycle, statusCycle}

@@ -18,7 +18,7 @@ use Rattle.record.specs.declared.Act.{Act}
 use Rattle.record.specs.declared.Device.{Device}
 use Rattle.record.specs.Part.{isPart, sizeOf, idSize}
 use Rattle.record.specs.Fresh.{fresh}
-use Rattle.record.specs.Refusal.{wrongLength}
+use Rattle.refusals.specs.Refusal.{wrongLength}
 use Rattle.record.specs.Numbers.{actOf}
 use Rattle.device.specs.World.{World, world}
 use Rattle.acts.specs.declared.Answer.{Answer}

@@ -20,8 +20,8 @@ use Rattle.record.specs.declared.Target.{Target}
 use Rattle.record.specs.declared.Target.the-variants.{Eeprom, Id, Status}
 use Rattle.record.specs.declared.Protection.{Protection}
 use Rattle.record.specs.Part.{sizeOf, idSize}
-use Rattle.record.specs.Range.{selected}
-use Rattle.record.specs.InRange.{InRange}
+use Rattle.record.specs.Stages.{selected}
+use Rattle.refusals.specs.InRange.{InRange}
 use Rattle.record.specs.Numbers.{protectionNumber}
 use Rattle.device.specs.World.{World, eepromAfter, idAfter, protectionAfter}
 use Rattle.device.specs.Tick.{Waited, waited}

@@ -9,8 +9,8 @@ use borrow.Author.Tests.{eqb-false}
 use lib.Dec.{eqb}
 use lib.ListN.{getD}
 use Rattle.record.specs.Part.{sizeOf}
-use Rattle.record.specs.Range.{outOfRange, countersOut, frameOut, bitOutside}
-use Rattle.record.specs.Refusal.{refusalOf}
+use Rattle.refusals.specs.Range.{outOfRange, countersOut, frameOut, bitOutside}
+use Rattle.refusals.specs.Refusal.{refusalOf}
 use Rattle.record.specs.Fresh.{fresh}
 use Rattle.base.specs.Words.{every, storeUnder, members}
 use Rattle.device.specs.World.{World}

@@ -15,7 +15,7 @@ use Rattle.record.specs.declared.Load.{Load}
 use Rattle.record.specs.declared.Target.{Target}
 use Rattle.record.specs.declared.Target.the-variants.{Eeprom, Id, Status}
 use Rattle.record.specs.Address.{pageOf}
-use Rattle.record.specs.InRange.{InRange}
+use Rattle.refusals.specs.InRange.{InRange}
 use Rattle.device.specs.World.{World}
 use Rattle.acts.specs.Act.{performed}
 use Rattle.acts.specs.Shape.{Shaped}

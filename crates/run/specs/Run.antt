@@ -9,7 +9,7 @@ use lib.Dec.{ltb}
 use lib.ListN.{length, drop}
 use Rattle.base.specs.Words.{pick}
 use Rattle.record.specs.Part.{isPart}
-use Rattle.record.specs.Refusal.{wrongLength, firstRefusal}
+use Rattle.refusals.specs.Refusal.{wrongLength, firstRefusal}
 use Rattle.record.specs.Fresh.{fresh}
 use Rattle.record.specs.Numbers.{actOf}
 use Rattle.device.specs.World.{World, world}

@@ -3,7 +3,7 @@ use device::registers::SECONDS;
 use device::registers::WATCHDOG;
 use record::Cycle;
 use record::Device;
-use record::range::STARTUP_TICKS;
+use record::limits::STARTUP_TICKS;
 ghost use mathlib.Core.Path.{_≡_};
 ghost use Prim.Native.Nat.{_+_, _-_, _<_, min};
 ghost use Rattle.base.specs.Words.{pick};
@@ -56,7 +56,7 @@ fn watchdog_quiet(limit: u64, d: Device) -> u64
     let counting = watchdog_counts(d);
     if counting {
         if c.delay == 0 {
-            let most = record::range::period(d.regs[WATCHDOG]) as u64;
+            let most = record::limits::period(d.regs[WATCHDOG]) as u64;
             return least(limit, fallen(most - 1, c.watchdog as u64));
         }
         return least(limit, c.delay as u64 - 1);

@@ -1,0 +1,254 @@
+-- The refusal table, proved: the chain that decides answers k exactly when row k holds and no row before it does, and 0 exactly
+-- when none holds. What an accepted act may suppose, and that each part accepts each act.
+-- Assumes nothing.
+use Prim.Native.Nat.{ℕ, _≤_}
+use native.Mathlib.Omega.{arith}
+use mathlib.Core.Path.{_≡_, refl, sym, ap, subst, _∙_}
+use mathlib.Core.Logic.{inl, inr, ⊎-elim, _↔_}
+use mathlib.Core.Bool.{Bool, true, false, not, or-true, false≢true}
+use mathlib.Core.List.{List, [], _∷_}
+use borrow.Author.Tests.{lt-ltb, eq-eqb, ne-eqb, ltb-true, leb-true, leb-false, eqb-true, eqb-false, not-true, not-false}
+use lib.Dec.{leb, eqb, lit<}
+use Rattle.base.specs.Words.{pick, every}
+use Rattle.base.proofs.Tests.{by-cases, both-left, both-right, either, neither-left, neither-right, true-false, row}
+use Rattle.base.proofs.Every.{every-at}
+use Rattle.record.specs.declared.Device.{Device}
+use Rattle.record.specs.declared.Act.{Act}
+use Rattle.record.specs.declared.Act.the-variants.{Select, Byte, End, Wait, Cut, Up}
+use Rattle.record.specs.declared.Stage.{Stage}
+use Rattle.record.specs.declared.Stage.the-variants.{Idle, Opened}
+use Rattle.record.specs.Part.{isPart, sizeOf, idSize}
+use Rattle.record.specs.Registers.{waitLimit}
+use Rattle.record.specs.Fresh.{fresh}
+use Rattle.record.specs.Stages.{selected}
+use Rattle.refusals.specs.Range.{countersOut, frameOut, bitOutside, outOfRange}
+use Rattle.refusals.specs.Refusal.{wrongLength, wrongNumber, wrongPower, wrongSelect, refusalOf}
+use Rattle.refusals.specs.Rows.{PartRow, LengthRow, RangeRow, NumberRow, leftover, wait, byte, mask, select, up, PowerRow, select-off, byte-off, end-off, cut-off, up-on, SelectedRow, select-again, NotSelectedRow, byte-alone, end-alone, Row, table, First, Answered}
+use Rattle.refusals.proofs.RangeLaws.{idle, not-idle, range-row}
+
+-- the parts' lengths in bytes: 1 Kbit, 2 Kbit, 1 Kbit, 2 Kbit
+pub sizes : (sizeOf 1 ≡ 128) × (sizeOf 2 ≡ 256) × (sizeOf 3 ≡ 128) × (sizeOf 4 ≡ 256)
+sizes = (refl, refl, refl, refl)
+
+-- Each row is what its test says.
+
+part-row : (part : ℕ) → (not (isPart part) ≡ true) ↔ PartRow part
+part-row part = (
+  λ e. by-cases (leb 1 part)
+      (λ l. inr (leb-false part 4 (rw l at (not-true (isPart part) e))))
+      (λ l. inl (leb-false 1 part l)),
+  λ r. by-cases (isPart part)
+      (λ t. absurd (inside (leb-true 1 part (both-left (leb 1 part) (leb part 4) t)) (leb-true part 4 (both-right (leb 1 part) (leb part 4) t)) r))
+      (λ f. ap not f),
+)
+  where
+    inside : 1 ≤ part → part ≤ 4 → ¬ PartRow part
+    inside l h (inl r) = omega arith
+    inside l h (inr r) = omega arith
+
+length-row : (part ee id : ℕ) → (wrongLength part ee id ≡ true) ↔ LengthRow part ee id
+length-row part ee id = (
+  λ e. ⊎-elim (λ l. inl (eqb-false ee (sizeOf part) (not-true _ l))) (λ l. inr (eqb-false id 16 (not-true _ l))) (either (not (eqb ee (sizeOf part))) (not (eqb id 16)) e),
+  given,
+)
+  where
+    given : LengthRow part ee id → wrongLength part ee id ≡ true
+    given (inl n) = simp (ne-eqb ee (sizeOf part) n)
+    given (inr n) = simp (ne-eqb id 16 n, or-true)
+
+number-told : (act : Act) (n : ℕ) → wrongNumber act n ≡ true → NumberRow act n
+number-told Select n e = select (eqb-false n 0 (not-true (eqb n 0) e))
+number-told Byte n e = byte (ltb-true 255 n e)
+number-told End n e = leftover (ltb-true 7 n e)
+number-told Wait n e = wait {n = n} (omega (arith, ltb-true waitLimit n e))
+number-told Cut n e = mask (ltb-true 255 n e)
+number-told Up n e = up (eqb-false n 0 (not-true (eqb n 0) e))
+
+number-given : {act : Act} {n : ℕ} → NumberRow act n → wrongNumber act n ≡ true
+number-given (leftover h) = lt-ltb _ _ h
+number-given (wait {n} h) = lt-ltb waitLimit n (omega arith)
+number-given (byte h) = lt-ltb _ _ h
+number-given (mask h) = lt-ltb _ _ h
+number-given (select h) = ap not (ne-eqb _ 0 h)
+number-given (up h) = ap not (ne-eqb _ 0 h)
+
+power-told : (act : Act) (d : Device) → wrongPower act (d .power) ≡ true → PowerRow act d
+power-told Select d e = select-off (not-true (d .power) e)
+power-told Byte d e = byte-off (not-true (d .power) e)
+power-told End d e = end-off (not-true (d .power) e)
+power-told Wait d e = absurd (false≢true e)
+power-told Cut d e = cut-off (not-true (d .power) e)
+power-told Up d e = up-on e
+
+power-given : {act : Act} {d : Device} → PowerRow act d → wrongPower act (d .power) ≡ true
+power-given (select-off h) = ap not h
+power-given (byte-off h) = ap not h
+power-given (end-off h) = ap not h
+power-given (cut-off h) = ap not h
+power-given (up-on h) = h
+
+selected-given : {act : Act} {d : Device} → SelectedRow act d → wrongSelect act (selected (d .frame .stage)) ≡ 1
+selected-given (select-again {d} h) = by-cases (selected (d .frame .stage)) (λ t. rw t) (λ f. absurd (h (idle (d .frame .stage) f)))
+
+not-selected-given : {act : Act} {d : Device} → NotSelectedRow act d → wrongSelect act (selected (d .frame .stage)) ≡ 2
+not-selected-given (byte-alone h) = simp h
+not-selected-given (end-alone h) = simp h
+
+-- The chain, row by row.
+
+one-row :
+    (t : Bool) (r : Row) (rows : List Row) (x : ℕ) → (t ≡ true) ↔ r .holds → First rows x → First (r ∷ rows) (pick t (r .number) x)
+unfolding First
+one-row true r rows x e f = inl (e .0 refl, refl)
+one-row false r rows x e f = inr (λ h. false≢true (e .1 h), f)
+
+-- "then 1 or 2"
+abbrev last : Act → Device → List Row
+last act d = record { number = 1; holds = SelectedRow act d } ∷ record { number = 2; holds = NotSelectedRow act d } ∷ []
+
+no-last : (act : Act) (d : Device) → wrongSelect act (selected (d .frame .stage)) ≡ 0 → First (last act d) 0
+unfolding First
+no-last act d e = inr (λ h. omega (arith, e, selected-given h), inr (λ h. omega (arith, e, not-selected-given h), refl))
+
+alone : (act : Act) (d : Device) → wrongSelect act (selected (d .frame .stage)) ≡ 2 → NotSelectedRow act d → First (last act d) 2
+unfolding First
+alone act d e r = inr (λ h. omega (arith, e, selected-given h), inl (r, refl))
+
+last-rows : (act : Act) (d : Device) (t : Bool) → selected (d .frame .stage) ≡ t → First (last act d) (wrongSelect act t)
+unfolding First
+last-rows Select d true e = inl (select-again (not-idle (d .frame .stage) e), refl)
+last-rows Select d false e = no-last Select d (ap (wrongSelect Select) e)
+last-rows Byte d true e = no-last Byte d (ap (wrongSelect Byte) e)
+last-rows Byte d false e = alone Byte d (ap (wrongSelect Byte) e) (byte-alone (idle (d .frame .stage) e))
+last-rows End d true e = no-last End d (ap (wrongSelect End) e)
+last-rows End d false e = alone End d (ap (wrongSelect End) e) (end-alone (idle (d .frame .stage) e))
+last-rows Wait d t e = no-last Wait d refl
+last-rows Cut d t e = no-last Cut d refl
+last-rows Up d t e = no-last Up d refl
+
+-- The theorem: the number that answers an act is the table's,
+pub answered : (part : ℕ) (act : Act) (n : ℕ) (d : Device) (ee id : ℕ) → Answered part act n d ee id (refusalOf part act n d ee id)
+unfolding refusalOf
+answered part act n d ee id =
+    one-row (not (isPart part)) _ _ _ (part-row part)
+    (one-row (wrongLength part ee id) _ _ _ (length-row part ee id)
+    (one-row (outOfRange part d) _ _ _ (range-row part d)
+    (one-row (wrongNumber act n) _ _ _ (number-told act n, number-given)
+    (one-row (wrongPower act (d .power)) _ _ _ (power-told act d, power-given)
+    (last-rows act d (selected (d .frame .stage)) refl)))))
+
+-- a table gives one number,
+pub first-once : (rows : List Row) (j k : ℕ) → First rows j → First rows k → j ≡ k
+unfolding First
+first-once [] j k p q = p ∙ sym q
+first-once (r ∷ rows) j k (inl p) (inl q) = p .1 ∙ sym (q .1)
+first-once (r ∷ rows) j k (inl p) (inr q) = absurd (q .0 (p .0))
+first-once (r ∷ rows) j k (inr p) (inl q) = absurd (p .0 (q .0))
+first-once (r ∷ rows) j k (inr p) (inr q) = first-once rows j k (p .1) (q .1)
+
+-- so that an act is answered k exactly when row k holds and no row before it does, for every part, act, number, record and lengths.
+pub exactly :
+    (part : ℕ) (act : Act) (n : ℕ) (d : Device) (ee id k : ℕ)
+    → (refusalOf part act n d ee id ≡ k) ↔ Answered part act n d ee id k
+exactly part act n d ee id k = (
+  λ e. subst (Answered part act n d ee id) e (answered part act n d ee id),
+  λ a. first-once (table part act n d ee id) (refusalOf part act n d ee id) k (answered part act n d ee id) a,
+)
+
+-- what an act that is answered 0 has passed, as the tests of the chain
+pub record Accepted (part : ℕ) (act : Act) (n : ℕ) (d : Device) (ee id : ℕ) : Type 0 where
+  pub known : isPart part ≡ true
+  pub eeprom : ee ≡ sizeOf part
+  pub ids : id ≡ idSize
+  pub ranged : outOfRange part d ≡ false
+  pub number : wrongNumber act n ≡ false
+  pub power : wrongPower act (d .power) ≡ false
+  pub select : wrongSelect act (selected (d .frame .stage)) ≡ 0
+
+pub accepted : (part : ℕ) (act : Act) (n : ℕ) (d : Device) (ee id : ℕ) → refusalOf part act n d ee id ≡ 0 → Accepted part act n d ee id
+unfolding refusalOf
+accepted part act n d ee id e =
+    let r₁ = row (not (isPart part)) 3 _ (lit< tt) e in
+    let r₂ = row (wrongLength part ee id) 4 _ (lit< tt) (r₁ .1) in
+    let r₃ = row (outOfRange part d) 6 _ (lit< tt) (r₂ .1) in
+    let r₄ = row (wrongNumber act n) 3 _ (lit< tt) (r₃ .1) in
+    let r₅ = row (wrongPower act (d .power)) 5 _ (lit< tt) (r₄ .1) in
+    let l = not (eqb ee (sizeOf part)) in
+    let m = not (eqb id idSize) in
+    record {
+      known = not-false (isPart part) (r₁ .0);
+      eeprom = eqb-true ee (sizeOf part) (not-false _ (neither-left l m (r₂ .0)));
+      ids = eqb-true id idSize (not-false _ (neither-right l m (r₂ .0)));
+      ranged = r₃ .0;
+      number = r₄ .0;
+      power = r₅ .0;
+      select = r₅ .1;
+    }
+
+-- and the other way
+pub passed : (part : ℕ) (act : Act) (n : ℕ) (d : Device) (ee id : ℕ) → Accepted part act n d ee id → refusalOf part act n d ee id ≡ 0
+unfolding refusalOf
+passed part act n d ee id a = simp (a .known, eq-eqb ee (sizeOf part) (a .eeprom), eq-eqb id idSize (a .ids), a .ranged, a .number, a .power, a .select)
+
+-- an act is answered 0 exactly when no row holds
+pub done :
+    (part : ℕ) (act : Act) (n : ℕ) (d : Device) (ee id : ℕ)
+    → (refusalOf part act n d ee id ≡ 0)
+    ↔ ((¬ PartRow part) × (¬ LengthRow part ee id) × (¬ RangeRow part d) × (¬ NumberRow act n) × (¬ PowerRow act d) × (¬ SelectedRow act d) × (¬ NotSelectedRow act d))
+unfolding First
+done part act n d ee id = (
+  λ e. let a = accepted part act n d ee id e in (
+    λ r. true-false (a .known) (not-true (isPart part) (part-row part .1 r)),
+    λ r. true-false (length-row part ee id .1 r) (lengths e),
+    λ r. true-false (range-row part d .1 r) (a .ranged),
+    λ r. true-false (number-given r) (a .number),
+    λ r. true-false (power-given r) (a .power),
+    λ r. omega (arith, a .select, selected-given r),
+    λ r. omega (arith, a .select, not-selected-given r),
+  ),
+  λ h. exactly part act n d ee id 0 .1 (inr (h .0, inr (h .1, inr (h .2, inr (h .3, inr (h .4, inr (h .5, inr (h .6, refl)))))))),
+)
+  where
+    lengths : refusalOf part act n d ee id ≡ 0 → wrongLength part ee id ≡ false
+    lengths e = let a = accepted part act n d ee id e in simp (eq-eqb ee (sizeOf part) (a .eeprom), eq-eqb id idSize (a .ids))
+
+-- a record on which an act is accepted: fresh, with a frame opened for byte and end, with power off for up
+abbrev pub readyWith : Bool → Stage → Device
+readyWith power stage =
+    record {
+      regs = fresh .regs;
+      sram = fresh .sram;
+      counters = fresh .counters;
+      power = power;
+      guard = fresh .guard;
+      frame = record { stage = stage };
+      load = fresh .load;
+      cycle = fresh .cycle;
+    }
+
+abbrev pub ready : Act → Device
+ready Select = fresh
+ready Byte = readyWith true Opened
+ready End = readyWith true Opened
+ready Wait = fresh
+ready Cut = fresh
+ready Up = readyWith false Idle
+
+abbrev readyAnswer : Act → ℕ → ℕ
+readyAnswer act part = refusalOf part act 0 (ready act) (sizeOf part) idSize
+
+each-part : (act : Act) → every (λ (k : ℕ). eqb (pick (isPart k) (readyAnswer act k) 0) 0) 5 ≡ true
+unfolding every refusalOf outOfRange countersOut frameOut bitOutside fresh
+each-part Select = refl
+each-part Byte = refl
+each-part End = refl
+each-part Wait = refl
+each-part Cut = refl
+each-part Up = refl
+
+-- each part accepts each act
+pub shown : (part : ℕ) → isPart part ≡ true → (act : Act) → refusalOf part act 0 (ready act) (sizeOf part) idSize ≡ 0
+shown part h act =
+    let l : part ≤ 4 = leb-true part 4 (both-right (leb 1 part) (leb part 4) h) in
+    let e : pick (isPart part) (readyAnswer act part) 0 ≡ 0 = eqb-true _ 0 (every-at (λ (k : ℕ). eqb (pick (isPart k) (readyAnswer act k) 0) 0) 5 (each-part act) part (omega arith)) in
+    rw h at e

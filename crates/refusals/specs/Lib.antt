@@ -1,0 +1,4 @@
+pub mod Range
+pub mod Refusal
+pub mod InRange
+pub mod Rows

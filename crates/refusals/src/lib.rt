@@ -1,0 +1,94 @@
+// The refusal table: the number that answers an act, or 0. It performs nothing.
+use record::Act;
+use record::Device;
+use record::limits::WAIT_LIMIT;
+use record::part;
+use record::stages;
+ghost use mathlib.Core.Path.{_≡_};
+ghost use Rattle.refusals.specs.Refusal.{wrongNumber, wrongPower, wrongSelect, firstRefusal, refusalOf};
+
+pub mod range; // range.rt: number 6
+
+fn wrong_number(act: Act, n: u64) -> bool
+    ensures { λ r. ⌜ r ≡ wrongNumber act n ⌝ }
+{
+    match act {
+        Act::Select => n != 0,
+        Act::Byte => 255 < n,
+        Act::End => 7 < n,
+        Act::Wait => WAIT_LIMIT < n,
+        Act::Cut => 255 < n,
+        Act::Up => n != 0,
+    }
+}
+
+fn wrong_power(act: Act, power: bool) -> bool
+    ensures { λ r. ⌜ r ≡ wrongPower act power ⌝ }
+{
+    match act {
+        Act::Select => !power,
+        Act::Byte => !power,
+        Act::End => !power,
+        Act::Wait => false,
+        Act::Cut => !power,
+        Act::Up => power,
+    }
+}
+
+fn wrong_select(act: Act, selected: bool) -> u8
+    ensures { λ r. ⌜ r ≡ wrongSelect act selected ⌝ }
+{
+    match act {
+        Act::Select => { if selected { 1 } else { 0 } }
+        Act::Byte => { if selected { 0 } else { 2 } }
+        Act::End => { if selected { 0 } else { 2 } }
+        Act::Wait => 0,
+        Act::Cut => 0,
+        Act::Up => 0,
+    }
+}
+
+// The order of the table: the first test that holds gives its number, else the last.
+fn first_refusal(part: bool, length: bool, range: bool, number: bool, power: bool, last: u8) -> u8
+    ensures { λ r. ⌜ r ≡ firstRefusal part length range number power last ⌝ }
+{
+    if part {
+        return 3;
+    }
+    if length {
+        return 4;
+    }
+    if range {
+        return 6;
+    }
+    if number {
+        return 3;
+    }
+    if power {
+        return 5;
+    }
+    last
+}
+
+// The number that answers an act on a record, with an EEPROM and an ID memory of these lengths.
+pub fn refusal(part: u64, act: Act, number: u64, d: Device, eeprom: usize, id: usize) -> u8
+    ensures { λ r. ⌜ r ≡ refusalOf part act number d eeprom id ⌝ }
+{
+    let known = part::is_part(part);
+    let size = part::top(part) as usize + 1;
+    let ranged = range::out_of_range(part, d);
+    let wrong = wrong_number(act, number);
+    let unpowered = wrong_power(act, d.power);
+    let frame = d.frame;
+    let stage = frame.stage;
+    let open = stages::is_selected(stage);
+    let last = wrong_select(act, open);
+    first_refusal(
+        !known,
+        (eeprom != size) | (id != 16),
+        ranged,
+        wrong,
+        unpowered,
+        last,
+    )
+}
