@@ -19,8 +19,9 @@ use Rattle.device.proofs.WaitLaws.{wait-spent}
 use Rattle.device.proofs.TickRangeLaws.{wait-in-range, wait-lengths}
 use Rattle.frames.specs.Power.{cutWorld}
 use Rattle.frames.proofs.FrameLaws.{Sized, select-in-range, select-sized, byte-in-range, byte-sized}
-use Rattle.frames.proofs.EndLaws.{end-in-range, end-sized}
 use Rattle.frames.proofs.PowerLaws.{cut-in-range, cut-sized, cut-device, cut-eeprom-length, cut-id-length, up-in-range, up-sized}
+use Rattle.ends.specs.End.{afterEnd}
+use Rattle.ends.proofs.EndLaws.{end-in-range, end-sram-length}
 use Rattle.acts.specs.Act.{accepted, refusalIn, moved}
 use Rattle.acts.specs.Shape.{Shaped}
 
@@ -51,6 +52,12 @@ wait-shaped boots part n w g s =
     })
     (e .eeprom)
     (e .id)
+
+-- an end leaves the lists of the record alone, but for the SRAM, which CLRRAM makes 64 zeros
+end-sized : (top k : ℕ) (d : Device) → Sized d → Sized (afterEnd top k d)
+unfolding afterEnd
+end-sized top k d z =
+    record { regs = z .regs; sram = end-sram-length top k d (z .sram); bytes = z .bytes; offsets = z .offsets }
 
 cut-kept : (part mask : ℕ) (w : World) → InRange part (w .device) → Shaped part w → Kept part (cutWorld mask w)
 cut-kept part mask w g s =

@@ -16,8 +16,8 @@ use Rattle.refusals.specs.Refusal.{refusalOf}
 use Rattle.device.specs.World.{World, world}
 use Rattle.device.specs.Tick.{Waited, waited}
 use Rattle.frames.specs.Frame.{nextReply, afterByte, afterSelect}
-use Rattle.frames.specs.End.{afterEnd}
 use Rattle.frames.specs.Power.{cutCount, cutWorld, afterUp}
+use Rattle.ends.specs.End.{afterEnd}
 use Rattle.acts.specs.declared.Answer.{Answer}
 
 -- the number of the table, the reply on SO, a wait's ticks or a cut's count, and what is left

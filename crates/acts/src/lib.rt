@@ -100,7 +100,7 @@ fn accepted_act(
                 device,
             }
         }
-        Act::End => silent(0, 0, frames::end::after_end(top, v, d)),
+        Act::End => silent(0, 0, ends::end::after_end(top, v, d)),
         Act::Wait => wait_act(boots, number, d, eeprom, id),
         Act::Cut => cut_act(v, d, eeprom, id),
         Act::Up => silent(0, 0, frames::power::after_up(d)),

@@ -26,7 +26,7 @@ use Rattle.device.specs.Clock.{withTime, calendarTick}
 use Rattle.device.specs.Alarm.{matchesAt, match0, match1, alarmed}
 use Rattle.device.specs.Tick.{cycleDevice, cycleTick, clockwork, tick, waited}
 use Rattle.frames.specs.Frame.{nextReply, afterByte, afterSelect}
-use Rattle.frames.specs.End.{carried, cycleAfter, welAfter, afterEnd}
+use Rattle.ends.specs.End.{carried, cycleAfter, welAfter, afterEnd}
 use Rattle.acts.specs.Act.{performed}
 
 pub Edges : Type 0

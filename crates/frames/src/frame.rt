@@ -17,12 +17,20 @@ ghost use Rattle.frames.specs.Frame.{instructionReply, nextReply, firstS
 // The bit of each offset in a set of offsets.
 const OFFSETS: [u8; 8] = [1, 2, 4, 8, 16, 32, 64, 128];
 
-fn byte_at(m: &[u8], a: u8) -> u8
-    requires { ⌜ a < length (now m) ⌝ }
-    ensures { λ r. ⌜ r ≡ getD (now (m .entry)) a 0 ⌝ }
+fn eeprom_byte(eeprom: &[u8], a: EepromAddress) -> u8
+    requires { ⌜ a .0 < length (now eeprom) ⌝ }
+    ensures { λ r. ⌜ r ≡ getD (now (eeprom .entry)) (a .0) 0 ⌝ }
 {
-    let i = a as usize;
-    m[i]
+    let i = a.0 as usize;
+    eeprom[i]
+}
+
+fn id_byte(id: &[u8], a: IdAddress) -> u8
+    requires { ⌜ a .0 < length (now id) ⌝ }
+    ensures { λ r. ⌜ r ≡ getD (now (id .entry)) (a .0) 0 ⌝ }
+{
+    let i = a.0 as usize;
+    id[i]
 }
 
 fn instruction_reply(d: Device, code: Code) -> Reply
@@ -58,11 +66,11 @@ pub fn next_reply(eeprom: &[u8], id: &[u8], d: Device) -> Reply
         Stage::Opened => Reply::Off,
         Stage::Unheard => Reply::Off,
         Stage::Instruction(c) => instruction_reply(d, c),
-        Stage::EepromRead(a) => Reply::Driven(byte_at(eeprom, a.0)),
+        Stage::EepromRead(a) => Reply::Driven(eeprom_byte(eeprom, a)),
         Stage::EepromWrite(_) => Reply::Off,
         Stage::ClockRead(a) => Reply::Driven(device::registers::read_clock(d, a)),
         Stage::ClockWrite(_) => Reply::Off,
-        Stage::IdRead(a) => Reply::Driven(byte_at(id, a.0)),
+        Stage::IdRead(a) => Reply::Driven(id_byte(id, a)),
         Stage::IdWrite(_) => Reply::Off,
         Stage::StatusWrite(_) => Reply::Off,
         Stage::StatusWriteMore => Reply::Off,

@@ -27,7 +27,7 @@ use Rattle.record.specs.Part.{isPart, topOf}
 use Rattle.record.specs.Address.{pageOf}
 use Rattle.record.specs.Registers.{cycleTicks}
 use Rattle.record.specs.Numbers.{protectionOf, protectionNumber}
-use Rattle.frames.specs.End as chip
+use Rattle.ends.specs.End as chip
 use Rattle.ledger.specs.State as ledger
 use Rattle.ledger.specs.State.{Ledger, closed, firstStep, opened}
 use Rattle.ledger.specs.Frames as rules

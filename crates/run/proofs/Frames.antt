@@ -15,9 +15,9 @@ use Rattle.record.specs.Numbers.{protectionNumber}
 use Rattle.device.specs.World.{World}
 use Rattle.device.specs.Lines.{wip}
 use Rattle.frames.specs.Frame.{loadAfter, afterByte, afterSelect}
-use Rattle.frames.specs.End.{dataCame, carried, enabledAt, welAfter, afterEnd}
 use Rattle.frames.specs.Power.{afterUp}
 use Rattle.frames.proofs.FrameLaws.{written-beside}
+use Rattle.ends.specs.End.{dataCame, carried, enabledAt, welAfter, afterEnd}
 use Rattle.acts.specs.Act.{moved}
 use Rattle.ledger.specs.State.{Ledger, noByte}
 use Rattle.ledger.specs.Frames as ledger

@@ -21,8 +21,8 @@ use Rattle.device.specs.Watchdog.{watchdogTick}
 use Rattle.device.specs.Clock.{calendarTick}
 use Rattle.device.specs.Tick.{cycleDevice, cycleTick, clockwork, tick, waited}
 use Rattle.frames.specs.Frame.{nextReply, afterByte, afterSelect}
-use Rattle.frames.specs.End.{carried, cycleAfter, welAfter, afterEnd}
 use Rattle.frames.specs.Power.{afterCut, cutCount, cutWorld, afterUp}
+use Rattle.ends.specs.End.{carried, cycleAfter, welAfter, afterEnd}
 use Rattle.acts.specs.Act.{performed}
 use Rattle.ledger.specs.State.{eeprom, id, noByte, noCycle, start}
 use Rattle.ledger.specs.State as ledger
