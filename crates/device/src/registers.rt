@@ -63,9 +63,10 @@ fn bits_if(test: bool, v: u8) -> u8
 }
 
 // The bits that are made when a register is read: OSCON, the leap bit, and 12/24 of both alarms.
-fn made_bits(d: Device, a: u8) -> u8
-    ensures { λ r. ⌜ r ≡ made d a ⌝ }
+fn made_bits(d: Device, at: ClockAddress) -> u8
+    ensures { λ r. ⌜ r ≡ made d (at .0) ⌝ }
 {
+    let a = at.0;
     if a == 0x04 {
         let c = d.counters;
         return bits_if(c.startup == record::range::STARTUP_TICKS, 0x20);
@@ -89,7 +90,7 @@ pub fn read_clock(d: Device, at: ClockAddress) -> u8
     let a = at.0;
     if a < 0x20 {
         let i = a as usize;
-        let m = made_bits(d, a);
+        let m = made_bits(d, at);
         return d.regs[i] | m;
     }
     if a < 0x60 {
@@ -100,9 +101,10 @@ pub fn read_clock(d: Device, at: ClockAddress) -> u8
 }
 
 // What follows from the value stored at a register: 01h may stop the oscillator, 0Ah restarts the watchdog.
-fn after_write(boots: bool, a: u8, v: u8, c: Counters) -> Counters
-    ensures { λ r. ⌜ r ≡ afterWrite boots a v c ⌝ }
+fn after_write(boots: bool, at: ClockAddress, v: u8, c: Counters) -> Counters
+    ensures { λ r. ⌜ r ≡ afterWrite boots (at .0) v c ⌝ }
 {
+    let a = at.0;
     if a == 0x01 {
         if !boots & !(v / 128 % 2 == 1) {
             let mut next = c;
@@ -133,7 +135,7 @@ fn write_register(boots: bool, d: Device, at: ClockAddress, v: u8) -> Device
     let i = a as usize;
     let stored = v & WRITABLE[i];
     let old = d.counters;
-    let counters = after_write(boots, a, stored, old);
+    let counters = after_write(boots, at, stored, old);
     let mut next = d;
     next.regs[i] = stored;
     next.counters = counters;
