@@ -7,41 +7,8 @@ ghost use Prim.Native.Nat.{_<_};
 ghost use Rattle.base.specs.Words.{pick};
 ghost use Rattle.device.specs.Registers.{made, readClock, afterWrite, writeRegister, writeClock};
 
-// The bits of each register that WRITE may set, 00h to 1Fh.
-const WRITABLE: [u8; 32] = [
-    0xff,
-    0xff,
-    0x7f,
-    0xff,
-    0x1f,
-    0x3f,
-    0x1f,
-    0xff,
-    0xff,
-    0xff,
-    0xff,
-    0xff,
-    0x7f,
-    0x7f,
-    0x3f,
-    0xff,
-    0x3f,
-    0x1f,
-    0xff,
-    0x7f,
-    0x7f,
-    0x3f,
-    0xff,
-    0x3f,
-    0,
-    0,
-    0,
-    0,
-    0,
-    0,
-    0,
-    0,
-];
+// The bits of each register that WRITE may set, 00h to 1Fh: today those that it may hold.
+const WRITABLE: [u8; 32] = record::range::KEPT;
 
 // Addresses by the sheet's names.
 pub const SECONDS: usize = 0x01;

@@ -20,7 +20,7 @@ use Rattle.record.specs.declared.Stage.the-variants.{Idle, Opened, Unhea
 use Rattle.record.specs.declared.Target.{Target}
 use Rattle.record.specs.declared.Target.the-variants.{Eeprom, Id, Status}
 use Rattle.record.specs.Part.{sizeOf, bootsOf}
-use Rattle.record.specs.Registers.{secondsAt, watchdogAt, kept, periodOf, cycleTicks, startupTicks, longPulse, delayTicks}
+use Rattle.record.specs.Registers.{secondsAt, watchdogAt, kept, periodOf, cycleTicks, startupTicks, dividerLast, longPulse, delayTicks}
 
 -- a frame is open: the chip is selected
 abbrev pub selected : Stage → Bool
@@ -142,7 +142,7 @@ eepromIn (Status p) = 0
 
 -- "divider above 32,767"
 abbrev pub dividerAbove : Counters → Bool
-dividerAbove c = ltb 32767 (c .divider)
+dividerAbove c = ltb dividerLast (c .divider)
 
 -- "start-up count above 32"
 abbrev pub startupAbove : Counters → Bool

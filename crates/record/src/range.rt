@@ -11,7 +11,7 @@ ghost use Rattle.record.specs.Range.{selected, heardUnderWip, foreignToW
 ghost use Rattle.record.specs.Registers.{periodOf};
 
 // The bits that a register may hold.
-const KEPT: [u8; 32] = [
+pub const KEPT: [u8; 32] = [
     0xff,
     0xff,
     0x7f,
@@ -55,8 +55,10 @@ pub const CYCLE_TICKS: u8 = 164;
 // OSCON sets at the 32nd asked tick.
 pub const STARTUP_TICKS: u8 = 32;
 
-// The largest divider: 32,768 ticks are a second.
-pub const DIVIDER_LAST: u16 = 32767;
+// 32,768 ticks are a second, and the divider stays below.
+pub const DIVIDER_TICKS: u32 = 32768;
+
+pub const DIVIDER_LAST: u16 = (DIVIDER_TICKS - 1) as u16;
 
 // The pulse on WDO, 122 us and 125 ms.
 pub const SHORT_PULSE: u16 = 4;
