@@ -50,7 +50,7 @@ fn wait_act(boots: bool, n: u64, d: Device, eeprom: &mut [u8], id: &mut [u8]) ->
     let was = 0 < y.left;
     let runs = 0 < z.left;
     if was & !runs {
-        page::store_target(target, load, 255, eeprom, id);
+        page::store_target(target, load, device::tick::WHOLE, eeprom, id);
         return silent(0, w.used, after);
     }
     silent(0, w.used, after)

@@ -9,15 +9,15 @@ ghost use Rattle.record.specs.Address.{pageOf};
 ghost use Rattle.record.specs.Stages.{eepromIn, idIn};
 ghost use Rattle.device.specs.World.{eepromAfter, idAfter};
 
-// For each offset in the set, the byte at base + offset becomes that of bytes.
-fn store(m: &mut [u8], base: usize, set: u8, bytes: [u8; 8])
-    requires { ⌜ base + 8 ≤ length (now m) ⌝ }
-    ensures { λ _. ⌜ now (m .exit) ≡ storeUnder (now (m .entry)) base set bytes 8 ⌝ }
+// For each offset in the set, the byte of the page becomes that of bytes.
+fn store(page: &mut [u8], set: u8, bytes: [u8; 8])
+    requires { ⌜ 8 ≤ length (now page) ⌝ }
+    ensures { λ _. ⌜ now (page .exit) ≡ storeUnder (now (page .entry)) 0 set bytes 8 ⌝ }
 {
     let mut k: usize = 0;
     while k < 8 {
         if (set >> k) % 2 == 1 {
-            m[base + k] = bytes[k];
+            page[k] = bytes[k];
         }
         k += 1;
     }
@@ -33,11 +33,11 @@ pub fn store_target(target: Target, load: Load, mask: u8, eeprom: &mut [u8], id:
     match target {
         Target::Eeprom(a) => {
             let base = (a.0 / 8 * 8) as usize;
-            store(eeprom, base, set, bytes);
+            store(&mut eeprom[base..base + 8], set, bytes);
         }
         Target::Id(a) => {
             let base = (a.0 / 8 * 8) as usize;
-            store(id, base, set, bytes);
+            store(&mut id[base..base + 8], set, bytes);
         }
         Target::Status(_) => {}
     }

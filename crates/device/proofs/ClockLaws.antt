@@ -148,24 +148,25 @@ pub clock-other :
 clock-other counted d k h a b =
     clock-register (λ (v : ℕ). v ≡ getD (d .regs) k 0) counted d k (λ l. absurd (omega arith)) (λ e. absurd (⊎-elim a b e)) refl
 
--- ST and VBATEN stay
+-- a bit of a time register that the calendar leaves stays; so ST and VBATEN
+clock-bit :
+    (counted : Bool) (d : Device) (a k : ℕ) → a < 8
+    → bit (getD (timeBytes (advanced (timeOf (d .regs)) .time)) a 0) k ≡ bit (getD (d .regs) a 0) k
+    → bit (getD (alarmTick counted d (calendarTick counted d) .regs) a 0) k ≡ bit (getD (d .regs) a 0) k
+clock-bit counted d a k h s =
+    clock-register (λ (v : ℕ). bit v k ≡ bit (getD (d .regs) a 0) k) counted d a (λ l. s)
+    (λ e. absurd (⊎-elim (λ z. omega arith) (λ z. omega arith) e))
+    refl
+
 pub clock-st :
     (counted : Bool) (d : Device)
     → bit (getD (alarmTick counted d (calendarTick counted d) .regs) secondsAt 0) 7 ≡ bit (getD (d .regs) secondsAt 0) 7
-clock-st counted d =
-    clock-register (λ (v : ℕ). bit v 7 ≡ bit (getD (d .regs) secondsAt 0) 7) counted d secondsAt
-    (λ l. st-stays (timeOf (d .regs)))
-    (λ e. absurd (⊎-elim (λ z. omega arith) (λ z. omega arith) e))
-    refl
+clock-st counted d = clock-bit counted d secondsAt 7 (omega arith) (st-stays (timeOf (d .regs)))
 
 pub clock-vbaten :
     (counted : Bool) (d : Device)
     → bit (getD (alarmTick counted d (calendarTick counted d) .regs) dayAt 0) 3 ≡ bit (getD (d .regs) dayAt 0) 3
-clock-vbaten counted d =
-    clock-register (λ (v : ℕ). bit v 3 ≡ bit (getD (d .regs) dayAt 0) 3) counted d dayAt
-    (λ l. vbaten-stays (timeOf (d .regs)))
-    (λ e. absurd (⊎-elim (λ z. omega arith) (λ z. omega arith) e))
-    refl
+clock-vbaten counted d = clock-bit counted d dayAt 3 (omega arith) (vbaten-stays (timeOf (d .regs)))
 
 -- the number of registers
 with-time-length : (regs : List ℕ) (t : Time) → length (withTime regs t) ≡ length regs

@@ -20,7 +20,7 @@ use Rattle.device.specs.Setters.{withGuard}
 use Rattle.device.specs.Registers.{oscon}
 use Rattle.device.specs.Oscillator.{oscillatorTick}
 use Rattle.device.specs.Watchdog.{counting, watchdogTick}
-use Rattle.device.specs.World.{World, eepromAfter, idAfter, protectionAfter}
+use Rattle.device.specs.World.{World, wholeMask, eepromAfter, idAfter, protectionAfter}
 use Rattle.device.specs.Tick.{withLeft, cycleDevice, cycleTick, clockwork, alive, tick, deviceTick, ends}
 use Rattle.device.proofs.ClockLaws.{clock-vbaten}
 use Rattle.device.proofs.RegisterLaws.{oscillator-regs}
@@ -42,14 +42,14 @@ pub record CycleStep (last : Bool) (d e : Device) : Type 0 where
   pub target : e .cycle .target ≡ d .cycle .target
   pub left : e .cycle .left ≡ d .cycle .left - 1
   pub wel : e .guard .wel ≡ pick last false (d .guard .wel)
-  pub protection : e .guard .protection ≡ pick last (protectionAfter 255 (d .guard .protection) (d .cycle .target)) (d .guard .protection)
+  pub protection : e .guard .protection ≡ pick last (protectionAfter wholeMask (d .guard .protection) (d .cycle .target)) (d .guard .protection)
   pub lock : e .guard .lock ≡ d .guard .lock
 
 step-of :
     (last : Bool) (d : Device) (g : Guard) (k : ℕ)
     → k ≡ d .cycle .left - 1
     → g .wel ≡ pick last false (d .guard .wel)
-    → g .protection ≡ pick last (protectionAfter 255 (d .guard .protection) (d .cycle .target)) (d .guard .protection)
+    → g .protection ≡ pick last (protectionAfter wholeMask (d .guard .protection) (d .cycle .target)) (d .guard .protection)
     → g .lock ≡ d .guard .lock
     → CycleStep last d (withGuard (withLeft d k) g)
 step-of last d g k left wel protection lock =
@@ -81,7 +81,7 @@ cycle-step d =
     pick-when (CycleStep (eqb left 1) d) (eqb left 1)
     (λ o.
     let e : left ≡ 1 = eqb-true left 1 o in
-    step-of (eqb left 1) d (record { wel = false; protection = protectionAfter 255 (g .protection) (d .cycle .target); lock = g .lock }) 0
+    step-of (eqb left 1) d (record { wel = false; protection = protectionAfter wholeMask (g .protection) (d .cycle .target); lock = g .lock }) 0
     (omega arith) (yes _ _ o) (yes _ _ o) refl)
     (λ o. step-of (eqb left 1) d g (left - 1) refl (no _ _ o) (no _ _ o) refl))
 
@@ -94,7 +94,7 @@ pub record Ticked (d e : Device) : Type 0 where
   pub target : e .cycle .target ≡ d .cycle .target
   pub left : e .cycle .left ≡ pick (alive d) (d .cycle .left - 1) (d .cycle .left)
   pub wel : e .guard .wel ≡ pick (ends d) false (d .guard .wel)
-  pub protection : e .guard .protection ≡ pick (ends d) (protectionAfter 255 (d .guard .protection) (d .cycle .target)) (d .guard .protection)
+  pub protection : e .guard .protection ≡ pick (ends d) (protectionAfter wholeMask (d .guard .protection) (d .cycle .target)) (d .guard .protection)
   pub lock : e .guard .lock ≡ d .guard .lock
 
 pub device-ticked : (boots : Bool) (d : Device) → Ticked d (deviceTick boots d)
@@ -134,13 +134,13 @@ ticked boots w = rw (tick-device boots w) (device-ticked boots (w .device))
 -- the memories change where a cycle ends
 pub tick-eeprom :
     (boots : Bool) (w : World)
-    → tick boots w .eeprom ≡ pick (ends (w .device)) (eepromAfter (w .device .load) 255 (w .eeprom) (w .device .cycle .target)) (w .eeprom)
+    → tick boots w .eeprom ≡ pick (ends (w .device)) (eepromAfter (w .device .load) wholeMask (w .eeprom) (w .device .cycle .target)) (w .eeprom)
 unfolding tick cycleTick
 tick-eeprom boots w = by-cases (alive (w .device)) (λ a. simp a) (λ a. simp a)
 
 pub tick-id :
     (boots : Bool) (w : World)
-    → tick boots w .id ≡ pick (ends (w .device)) (idAfter (w .device .load) 255 (w .id) (w .device .cycle .target)) (w .id)
+    → tick boots w .id ≡ pick (ends (w .device)) (idAfter (w .device .load) wholeMask (w .id) (w .device .cycle .target)) (w .id)
 unfolding tick cycleTick
 tick-id boots w = by-cases (alive (w .device)) (λ a. simp a) (λ a. simp a)
 

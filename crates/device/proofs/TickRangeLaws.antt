@@ -26,7 +26,7 @@ use Rattle.device.specs.Registers.{oscon}
 use Rattle.device.specs.Oscillator.{oscillatorTick}
 use Rattle.device.specs.Watchdog.{watchdogTick}
 use Rattle.device.specs.Clock.{timeOf, running, dividerTick, calendarTick}
-use Rattle.device.specs.World.{World, world, eepromAfter, idAfter}
+use Rattle.device.specs.World.{World, world, wholeMask, eepromAfter, idAfter}
 use Rattle.device.specs.Tick.{cycleDevice, alarmTick, clockwork, alive, tick, deviceTick, ends, waited, deviceWaited}
 use Rattle.device.proofs.RegisterLaws.{Inside, ClockOf, clock-in, Beside, in-range-beside, oscillator-clock-in, oscillator-regs, watchdog-clock-in, watchdog-regs-length}
 use Rattle.device.proofs.ClockLaws.{clock-each, clock-other, clock-st, clock-regs-length}
@@ -231,11 +231,11 @@ tick-lengths boots w =
       eeprom =
           ap length (tick-eeprom boots w)
           ∙ pick-case (λ (l : List ℕ). length l ≡ length (w .eeprom)) (ends (w .device))
-          (eeprom-after-length (w .device .load) 255 (w .eeprom) (w .device .cycle .target)) refl;
+          (eeprom-after-length (w .device .load) wholeMask (w .eeprom) (w .device .cycle .target)) refl;
       id =
           ap length (tick-id boots w)
           ∙ pick-case (λ (l : List ℕ). length l ≡ length (w .id)) (ends (w .device))
-          (id-after-length (w .device .load) 255 (w .id) (w .device .cycle .target)) refl;
+          (id-after-length (w .device .load) wholeMask (w .id) (w .device .cycle .target)) refl;
     }
 
 pub wait-lengths : (boots : Bool) (n : ℕ) (w : World) → SameLengths w (waited boots n w .after)

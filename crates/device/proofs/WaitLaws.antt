@@ -2,7 +2,7 @@
 -- stops at the first tick that changed a line.
 -- Assumes nothing.
 use mathlib.Core.Path.{_≡_, refl, sym, ap, subst, _∙_}
-use mathlib.Core.Bool.{Bool, true, false, not, _&&_, _||_, and-false, true≢false}
+use mathlib.Core.Bool.{Bool, true, false, not, _&&_, _||_, and-false}
 use mathlib.Core.Logic.{_⊎_, inl, inr, ⊎-elim, _≢_}
 use Prim.Native.Nat.{ℕ, zero, suc, _+_, _-_, _<_, _≤_}
 use native.Mathlib.Numerals.{add-one}
@@ -14,8 +14,9 @@ use Rattle.base.proofs.Tests.{by-cases, yes, no, both-left, both-right, neither
 use Rattle.record.specs.declared.Device.{Device}
 use Rattle.refusals.specs.InRange.{InRange}
 use Rattle.device.specs.Lines.{irqLow, wdoLow, wip, differ, changed}
-use Rattle.device.specs.World.{World, eepromAfter, idAfter, protectionAfter}
+use Rattle.device.specs.World.{World, wholeMask, eepromAfter, idAfter, protectionAfter}
 use Rattle.device.specs.Tick.{alive, tick, deviceTick, ends, Waited, plus, waited, ticks, DeviceWaited, plusDevice, deviceWaited, ended, settled}
+use Rattle.device.proofs.LineLaws.{differ-false, differ-same}
 use Rattle.device.proofs.TickLaws.{Ticked, ticked, tick-device, tick-eeprom, tick-id, tick-dead, tick-alive}
 
 -- The three laws of a wait; no other proof unfolds `waited`.
@@ -51,16 +52,6 @@ wait-each boots P p q s (suc n) w =
     (λ e. rw (wait-go boots n w e) (s n w (waited boots n (tick boots w)) e (wait-each boots P p q s n (tick boots w)))))
 
 -- what a tick that changed no line says of WIP
-differ-false : (a b : Bool) → differ a b ≡ false → a ≡ b
-differ-false true true e = refl
-differ-false true false e = absurd (true≢false e)
-differ-false false true e = absurd (true≢false e)
-differ-false false false e = refl
-
-differ-same : (a : Bool) → differ a a ≡ false
-differ-same true = refl
-differ-same false = refl
-
 pub same-wip : (d e : Device) → changed d e ≡ false → wip d ≡ wip e
 unfolding changed
 same-wip d e h = differ-false (wip d) (wip e) (neither-right (differ (irqLow d) (irqLow e) || differ (wdoLow d) (wdoLow e)) (differ (wip d) (wip e)) h)
@@ -104,9 +95,9 @@ pub record Spent (w : World) (r : Waited) : Type 0 where
   pub stillId : Unended w r → r .after .id ≡ w .id
   -- at its end
   pub endWel : Ended w r → r .after .device .guard .wel ≡ false
-  pub endProtection : Ended w r → r .after .device .guard .protection ≡ protectionAfter 255 (w .device .guard .protection) (w .device .cycle .target)
-  pub endEeprom : Ended w r → r .after .eeprom ≡ eepromAfter (w .device .load) 255 (w .eeprom) (w .device .cycle .target)
-  pub endId : Ended w r → r .after .id ≡ idAfter (w .device .load) 255 (w .id) (w .device .cycle .target)
+  pub endProtection : Ended w r → r .after .device .guard .protection ≡ protectionAfter wholeMask (w .device .guard .protection) (w .device .cycle .target)
+  pub endEeprom : Ended w r → r .after .eeprom ≡ eepromAfter (w .device .load) wholeMask (w .eeprom) (w .device .cycle .target)
+  pub endId : Ended w r → r .after .id ≡ idAfter (w .device .load) wholeMask (w .id) (w .device .cycle .target)
 
 -- no tick, or ticks that change nothing with no cycle running
 spent-still : (w : World) (k : ℕ) → (k ≡ 0) ⊎ (w .device .cycle .left ≡ 0) → Spent w (record { used = k; after = w })
@@ -349,7 +340,7 @@ pub spent-guard :
     (w : World) (r : Waited) → Spent w r
     → r .after .device .guard
     ≡ pick (ended (w .device) (r .after .device))
-    (record { wel = false; protection = protectionAfter 255 (w .device .guard .protection) (w .device .cycle .target); lock = w .device .guard .lock })
+    (record { wel = false; protection = protectionAfter wholeMask (w .device .guard .protection) (w .device .cycle .target); lock = w .device .guard .lock })
     (w .device .guard)
 spent-guard w r s =
     by-cases (ended (w .device) (r .after .device))

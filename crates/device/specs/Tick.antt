@@ -16,7 +16,7 @@ use Rattle.device.specs.Oscillator.{oscillatorTick}
 use Rattle.device.specs.Watchdog.{watchdogTick}
 use Rattle.device.specs.Clock.{timeOf, due, calendarTick}
 use Rattle.device.specs.Alarm.{alarmed}
-use Rattle.device.specs.World.{World, world, eepromAfter, idAfter, protectionAfter}
+use Rattle.device.specs.World.{World, world, wholeMask, eepromAfter, idAfter, protectionAfter}
 
 -- the cycle with k ticks left
 abbrev pub withLeft : Device → ℕ → Device
@@ -26,7 +26,7 @@ withLeft d k = withCycle d (record { target = d .cycle .target; left = k })
 abbrev pub cycleEnded : Device → Device
 cycleEnded d =
     withGuard (withLeft d 0)
-    (record { wel = false; protection = protectionAfter 255 (d .guard .protection) (d .cycle .target); lock = d .guard .lock })
+    (record { wel = false; protection = protectionAfter wholeMask (d .guard .protection) (d .cycle .target); lock = d .guard .lock })
 
 -- the write cycle's part, of the record; a countdown of 0 is no cycle
 unfoldable pub cycleDevice : Device → Device
@@ -38,8 +38,8 @@ unfoldable pub cycleTick : World → World
 cycleTick w =
     let last : Bool = eqb (w .device .cycle .left) 1 in
     world (cycleDevice (w .device))
-    (pick last (eepromAfter (w .device .load) 255 (w .eeprom) (w .device .cycle .target)) (w .eeprom))
-    (pick last (idAfter (w .device .load) 255 (w .id) (w .device .cycle .target)) (w .id))
+    (pick last (eepromAfter (w .device .load) wholeMask (w .eeprom) (w .device .cycle .target)) (w .eeprom))
+    (pick last (idAfter (w .device .load) wholeMask (w .id) (w .device .cycle .target)) (w .id))
 
 -- the alarms' part, where the hundredths advanced in d
 abbrev pub alarmTick : Bool → Device → Device → Device
@@ -117,6 +117,6 @@ settled w r =
       used = r .used;
       after =
           world (r .device)
-          (pick over (eepromAfter (w .device .load) 255 (w .eeprom) (w .device .cycle .target)) (w .eeprom))
-          (pick over (idAfter (w .device .load) 255 (w .id) (w .device .cycle .target)) (w .id));
+          (pick over (eepromAfter (w .device .load) wholeMask (w .eeprom) (w .device .cycle .target)) (w .eeprom))
+          (pick over (idAfter (w .device .load) wholeMask (w .id) (w .device .cycle .target)) (w .id));
     }

@@ -22,6 +22,10 @@ pub record World : Type 0 where
 abbrev pub world : Device → List ℕ → List ℕ → World
 world d ee id = record { device = d; eeprom = ee; id = id }
 
+-- the mask of a cycle that is not cut: every bit set
+abbrev pub wholeMask : ℕ
+wholeMask = 255
+
 -- the bytes of a page that a cycle changes: "Loaded offsets with their mask bit set take the new byte, no other changes"
 abbrev pub storePage : Load → ℕ → ℕ → List ℕ → List ℕ
 storePage l mask a m = storeUnder m (pageOf a) (bitAnd (l .offsets) mask) (l .bytes) 8

@@ -3,9 +3,15 @@ use crate::lines::ALARM_0;
 use crate::lines::ALARM_1;
 use crate::registers::CONTROL;
 use calendar::Advanced;
+use record::ClockAddress;
 ghost use mathlib.Core.Path.{_≡_};
 ghost use Prim.Native.Nat.{_≤_, _<_};
 ghost use Rattle.device.specs.Alarm.{matchesAt, allMatch, plainMatch, match0, match1, raise, alarmed};
+
+// The flag register of each alarm, as an address.
+const FLAG_0: ClockAddress = ClockAddress(ALARM_0 as u8);
+
+const FLAG_1: ClockAddress = ClockAddress(ALARM_1 as u8);
 
 // Which of an alarm's fields agree with the time registers.
 pub struct Matches {
@@ -16,11 +22,12 @@ pub struct Matches {
     pub date: bool,
 }
 
-// The fields of the alarm whose flag register is at a.
-fn matches_at(regs: [u8; 32], a: usize) -> Matches
-    requires { ⌜ (3 ≤ a) × (a < 31) ⌝ }
-    ensures { λ r. ⌜ r ≡ matchesAt regs a ⌝ }
+// The fields of the alarm whose flag register is at this address.
+fn matches_at(regs: [u8; 32], at: ClockAddress) -> Matches
+    requires { ⌜ (3 ≤ at .0) × (at .0 < 31) ⌝ }
+    ensures { λ r. ⌜ r ≡ matchesAt regs (at .0) ⌝ }
 {
+    let a = at.0 as usize;
     let seconds = a - 3;
     let minutes = a - 2;
     let hours = a - 1;
@@ -65,7 +72,7 @@ fn plain_match(t: Advanced, m: Matches, code: u8, rest: bool) -> bool
 fn matches_alarm_0(t: Advanced, regs: [u8; 32]) -> bool
     ensures { λ r. ⌜ r ≡ match0 t regs ⌝ }
 {
-    let m = matches_at(regs, ALARM_0);
+    let m = matches_at(regs, FLAG_0);
     let code = regs[ALARM_0] / 16 % 8;
     if code == 7 {
         let month = regs[0x06] % 32 == regs[0x11] % 32;
@@ -78,7 +85,7 @@ fn matches_alarm_0(t: Advanced, regs: [u8; 32]) -> bool
 fn matches_alarm_1(t: Advanced, regs: [u8; 32]) -> bool
     ensures { λ r. ⌜ r ≡ match1 t regs ⌝ }
 {
-    let m = matches_at(regs, ALARM_1);
+    let m = matches_at(regs, FLAG_1);
     let code = regs[ALARM_1] / 16 % 8;
     if code == 7 {
         let whole = t.seconds & all_match(m);
@@ -92,11 +99,12 @@ fn matches_alarm_1(t: Advanced, regs: [u8; 32]) -> bool
 }
 
 // A match sets bit 3 of the alarm's flag register.
-fn raised(go: bool, regs: [u8; 32], a: usize) -> [u8; 32]
-    requires { ⌜ a < 32 ⌝ }
-    ensures { λ r. ⌜ r ≡ raise go regs a ⌝ }
+fn raised(go: bool, regs: [u8; 32], at: ClockAddress) -> [u8; 32]
+    requires { ⌜ at .0 < 32 ⌝ }
+    ensures { λ r. ⌜ r ≡ raise go regs (at .0) ⌝ }
 {
     if go {
+        let a = at.0 as usize;
         let mut next = regs;
         next[a] = regs[a] | 0x08;
         return next;
@@ -111,6 +119,6 @@ pub fn alarms(t: Advanced, regs: [u8; 32]) -> [u8; 32]
     let active = regs[CONTROL];
     let go0 = (active / 16 % 2 == 1) & matches_alarm_0(t, regs);
     let go1 = (active / 32 % 2 == 1) & matches_alarm_1(t, regs);
-    let first = raised(go0, regs, ALARM_0);
-    raised(go1, first, ALARM_1)
+    let first = raised(go0, regs, FLAG_0);
+    raised(go1, first, FLAG_1)
 }

@@ -2,6 +2,7 @@
 use crate::registers::SECONDS;
 use calendar::Time;
 use record::Device;
+use record::limits::DIVIDER_TICKS;
 ghost use mathlib.Core.Path.{_≡_};
 ghost use Prim.Native.Nat.{_<_};
 ghost use Rattle.device.specs.Clock.{timeOf, withTime, hundredthDue, dividerTick, calendarTick};
@@ -42,7 +43,7 @@ fn hundredth_due(s: u16) -> bool
     ensures { λ r. ⌜ r ≡ hundredthDue s ⌝ }
 {
     let n = s as u32;
-    100 * n / 32768 < 100 * (n + 1) / 32768
+    100 * n / DIVIDER_TICKS < 100 * (n + 1) / DIVIDER_TICKS
 }
 
 fn divider_tick(runs: bool, d: Device) -> Device
@@ -50,7 +51,7 @@ fn divider_tick(runs: bool, d: Device) -> Device
 {
     if runs {
         let mut counters = d.counters;
-        counters.divider = ((counters.divider as u32 + 1) % 32768) as u16;
+        counters.divider = ((counters.divider as u32 + 1) % DIVIDER_TICKS) as u16;
         let mut next = d;
         next.counters = counters;
         return next;

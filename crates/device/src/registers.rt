@@ -2,46 +2,11 @@
 use record::ClockAddress;
 use record::Counters;
 use record::Device;
+use record::limits::WRITABLE;
 ghost use mathlib.Core.Path.{_≡_};
 ghost use Prim.Native.Nat.{_<_};
 ghost use Rattle.base.specs.Words.{pick};
 ghost use Rattle.device.specs.Registers.{made, readClock, afterWrite, writeRegister, writeClock};
-
-// The bits of each register that WRITE may set, 00h to 1Fh.
-const WRITABLE: [u8; 32] = [
-    0xff,
-    0xff,
-    0x7f,
-    0xff,
-    0x1f,
-    0x3f,
-    0x1f,
-    0xff,
-    0xff,
-    0xff,
-    0xff,
-    0xff,
-    0x7f,
-    0x7f,
-    0x3f,
-    0xff,
-    0x3f,
-    0x1f,
-    0xff,
-    0x7f,
-    0x7f,
-    0x3f,
-    0xff,
-    0x3f,
-    0,
-    0,
-    0,
-    0,
-    0,
-    0,
-    0,
-    0,
-];
 
 // Addresses by the sheet's names.
 pub const SECONDS: usize = 0x01;
@@ -63,9 +28,10 @@ fn bits_if(test: bool, v: u8) -> u8
 }
 
 // The bits that are made when a register is read: OSCON, the leap bit, and 12/24 of both alarms.
-fn made_bits(d: Device, a: u8) -> u8
-    ensures { λ r. ⌜ r ≡ made d a ⌝ }
+fn made_bits(d: Device, at: ClockAddress) -> u8
+    ensures { λ r. ⌜ r ≡ made d (at .0) ⌝ }
 {
+    let a = at.0;
     if a == 0x04 {
         let c = d.counters;
         return bits_if(c.startup == record::limits::STARTUP_TICKS, 0x20);
@@ -89,7 +55,7 @@ pub fn read_clock(d: Device, at: ClockAddress) -> u8
     let a = at.0;
     if a < 0x20 {
         let i = a as usize;
-        let m = made_bits(d, a);
+        let m = made_bits(d, at);
         return d.regs[i] | m;
     }
     if a < 0x60 {
@@ -100,9 +66,10 @@ pub fn read_clock(d: Device, at: ClockAddress) -> u8
 }
 
 // What follows from the value stored at a register: 01h may stop the oscillator, 0Ah restarts the watchdog.
-fn after_write(boots: bool, a: u8, v: u8, c: Counters) -> Counters
-    ensures { λ r. ⌜ r ≡ afterWrite boots a v c ⌝ }
+fn after_write(boots: bool, at: ClockAddress, v: u8, c: Counters) -> Counters
+    ensures { λ r. ⌜ r ≡ afterWrite boots (at .0) v c ⌝ }
 {
+    let a = at.0;
     if a == 0x01 {
         if !boots & !(v / 128 % 2 == 1) {
             let mut next = c;
@@ -133,7 +100,7 @@ fn write_register(boots: bool, d: Device, at: ClockAddress, v: u8) -> Device
     let i = a as usize;
     let stored = v & WRITABLE[i];
     let old = d.counters;
-    let counters = after_write(boots, a, stored, old);
+    let counters = after_write(boots, at, stored, old);
     let mut next = d;
     next.regs[i] = stored;
     next.counters = counters;

@@ -9,6 +9,9 @@ ghost use mathlib.Core.Path.{_≡_};
 ghost use Rattle.device.specs.World.{protectionAfter};
 ghost use Rattle.device.specs.Tick.{withLeft, cycleEnded, cycleDevice, clockwork, deviceTick};
 
+// The mask of a cycle that is not cut: every bit set.
+pub const WHOLE: u8 = 255;
+
 // The protection that a cycle leaves: a STATUS cycle goes by bit 0 of the mask.
 pub fn protection_after(mask: u8, old: Protection, target: Target) -> Protection
     ensures { λ r. ⌜ r ≡ protectionAfter mask old target ⌝ }
@@ -44,7 +47,7 @@ fn cycle_ended(d: Device) -> Device
     let old = g.protection;
     let y = d.cycle;
     let target = y.target;
-    let protection = protection_after(255, old, target);
+    let protection = protection_after(WHOLE, old, target);
     let lock = g.lock;
     let guard = Guard {
         wel: false,

@@ -1,7 +1,7 @@
 -- The registers' addresses, by the sheet's names (000, table 4-1), their masks, and the watchdog's periods.
 -- Not what a write or a tick does with them.
 -- Assumes nothing.
-use Prim.Native.Nat.{ℕ, _%_}
+use Prim.Native.Nat.{ℕ, _-_, _%_}
 use mathlib.Core.List.{List, [], _∷_}
 use lib.ListN.{getD}
 
@@ -63,9 +63,12 @@ cycleTicks = 164
 abbrev pub startupTicks : ℕ
 startupTicks = 32
 
--- 32,768 ticks a second
+-- 32,768 ticks a second, and the largest divider
 abbrev pub dividerTicks : ℕ
 dividerTicks = 32768
+
+abbrev pub dividerLast : ℕ
+dividerLast = dividerTicks - 1
 
 -- the pulse on WDO, 122 us and 125 ms
 abbrev pub shortPulse : ℕ

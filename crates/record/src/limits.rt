@@ -1,4 +1,4 @@
-// The limits, each named once, and the watchdog's periods.
+// The limits, the registers' masks and the watchdog's periods, each named once.
 ghost use mathlib.Core.Path.{_≡_};
 ghost use Rattle.record.specs.Registers.{periodOf};
 
@@ -8,8 +8,10 @@ pub const CYCLE_TICKS: u8 = 164;
 // OSCON sets at the 32nd asked tick.
 pub const STARTUP_TICKS: u8 = 32;
 
-// The largest divider: 32,768 ticks are a second.
-pub const DIVIDER_LAST: u16 = 32767;
+// 32,768 ticks are a second, and the divider stays below.
+pub const DIVIDER_TICKS: u32 = 32768;
+
+pub const DIVIDER_LAST: u16 = (DIVIDER_TICKS - 1) as u16;
 
 // The pulse on WDO, 122 us and 125 ms.
 pub const SHORT_PULSE: u16 = 4;
@@ -21,6 +23,45 @@ pub const DELAY_TICKS: u32 = 2097152;
 
 // The longest wait.
 pub const WAIT_LIMIT: u64 = 16777216;
+
+// The bits of each register that WRITE may set, 00h to 1Fh.
+pub const WRITABLE: [u8; 32] = [
+    0xff,
+    0xff,
+    0x7f,
+    0xff,
+    0x1f,
+    0x3f,
+    0x1f,
+    0xff,
+    0xff,
+    0xff,
+    0xff,
+    0xff,
+    0x7f,
+    0x7f,
+    0x3f,
+    0xff,
+    0x3f,
+    0x1f,
+    0xff,
+    0x7f,
+    0x7f,
+    0x3f,
+    0xff,
+    0x3f,
+    0,
+    0,
+    0,
+    0,
+    0,
+    0,
+    0,
+    0,
+];
+
+// The bits that a register may hold: today those that WRITE may set.
+pub const KEPT: [u8; 32] = WRITABLE;
 
 // The watchdog's periods in ticks, by bits 2:0 of 0Ah.
 const PERIODS: [u32; 8] = [32, 512, 2048, 4096, 32768, 524288, 1048576, 2097152];

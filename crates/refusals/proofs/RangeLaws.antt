@@ -22,7 +22,7 @@ use Rattle.record.specs.declared.Stage.the-variants.{Idle, Opened, Unheard, Ins
 use Rattle.record.specs.declared.Target.{Target}
 use Rattle.record.specs.declared.Target.the-variants.{Eeprom, Id, Status}
 use Rattle.record.specs.Part.{isPart, sizeOf, bootsOf}
-use Rattle.record.specs.Registers.{secondsAt, cycleTicks, startupTicks, longPulse, delayTicks}
+use Rattle.record.specs.Registers.{secondsAt, cycleTicks, startupTicks, dividerLast, longPulse, delayTicks}
 use Rattle.record.specs.Fresh.{fresh, freshRegs}
 use Rattle.record.specs.Stages.{selected, heardUnderWip, foreignToWip, idAt, idIn, eepromAt, eepromIn}
 use Rattle.refusals.specs.Range.{dividerAbove, startupAbove, countdownAbove, pulseAbove, delayAbove, watchdogPast, offsetAbove, idPointerAbove, eepromPointerPast, insideMask, bitOutside, startupStopped, busyWithoutPower, foreignFrame, countersOut, frameOut, outOfRange}
@@ -74,7 +74,7 @@ in-range part d e =
     (busyWithoutPower (d .power) s y) (foreignFrame s y) (neither-right counts frames both) in
     let off : d .power ≡ false → (selected s || ltb 0 (y .left)) ≡ false = λ o. other-fails (m .4) (ap not o) in
     record {
-      divider = omega (arith, ltb-false 32767 (c .divider) (n .0));
+      divider = omega (arith, ltb-false dividerLast (c .divider) (n .0));
       startup = ltb-false startupTicks (c .startup) (n .1);
       countdown = ltb-false cycleTicks (y .left) (m .0);
       pulse = ltb-false longPulse (c .pulse) (n .2);
@@ -282,7 +282,7 @@ counts-row part d e =
     let w = not (bootsOf part) in
     let t = not (bit (getD (d .regs) secondsAt 0) 7) in
     one-of-six (dividerAbove c) (startupAbove c) (pulseAbove c) (delayAbove c) (watchdogPast (d .regs) c) (startupStopped (bootsOf part) (d .regs) c) e
-    (λ h. divider (ltb-true 32767 (c .divider) h))
+    (λ h. divider (ltb-true dividerLast (c .divider) h))
     (λ h. startup (omega (arith, ltb-true startupTicks (c .startup) h)))
     (λ h. pulse (omega (arith, ltb-true longPulse (c .pulse) h)))
     (λ h. delay (omega (arith, ltb-true delayTicks (c .delay) h)))

@@ -16,11 +16,11 @@ use Rattle.record.specs.declared.Cycle.{Cycle}
 use Rattle.record.specs.declared.Stage.{Stage}
 use Rattle.record.specs.Stages.{selected, foreignToWip, idAt, idIn, eepromAt, eepromIn}
 use Rattle.record.specs.Part.{sizeOf, bootsOf}
-use Rattle.record.specs.Registers.{secondsAt, watchdogAt, kept, periodOf, cycleTicks, startupTicks, longPulse, delayTicks}
+use Rattle.record.specs.Registers.{secondsAt, watchdogAt, kept, periodOf, cycleTicks, startupTicks, dividerLast, longPulse, delayTicks}
 
 -- "divider above 32,767"
 abbrev pub dividerAbove : Counters → Bool
-dividerAbove c = ltb 32767 (c .divider)
+dividerAbove c = ltb dividerLast (c .divider)
 
 -- "start-up count above 32"
 abbrev pub startupAbove : Counters → Bool

@@ -8,48 +8,13 @@ use record::limits;
 use record::limits::CYCLE_TICKS;
 use record::limits::DELAY_TICKS;
 use record::limits::DIVIDER_LAST;
+use record::limits::KEPT;
 use record::limits::LONG_PULSE;
 use record::limits::STARTUP_TICKS;
 use record::part;
 use record::stages;
 ghost use mathlib.Core.Path.{_≡_};
 ghost use Rattle.refusals.specs.Range.{bitOutside, countersOut, frameOut, outOfRange};
-
-// The bits that a register may hold.
-const KEPT: [u8; 32] = [
-    0xff,
-    0xff,
-    0x7f,
-    0xff,
-    0x1f,
-    0x3f,
-    0x1f,
-    0xff,
-    0xff,
-    0xff,
-    0xff,
-    0xff,
-    0x7f,
-    0x7f,
-    0x3f,
-    0xff,
-    0x3f,
-    0x1f,
-    0xff,
-    0x7f,
-    0x7f,
-    0x3f,
-    0xff,
-    0x3f,
-    0,
-    0,
-    0,
-    0,
-    0,
-    0,
-    0,
-    0,
-];
 
 // Some register has a bit set outside its mask.
 fn bit_outside(regs: [u8; 32]) -> bool

@@ -16,12 +16,13 @@ use Rattle.record.specs.declared.Counters.{Counters}
 use Rattle.record.specs.Registers.{watchdogAt, secondsAt, periodOf, startupTicks, dividerTicks}
 use Rattle.device.specs.Setters.{withCounters, withRegs}
 use Rattle.device.specs.Registers.{oscon}
-use Rattle.device.specs.Lines.{irqLow, wdoLow, wip, differ, changed}
+use Rattle.device.specs.Lines.{irqLow, wdoLow, wip, changed}
 use Rattle.device.specs.Oscillator.{asked, oscillatorTick}
 use Rattle.device.specs.Watchdog.{counting, pulseTick, watchdogTick}
 use Rattle.device.specs.Clock.{running, due, hundredthDue, dividerTick, calendarTick}
 use Rattle.device.specs.Tick.{withLeft, cycleDevice, alarmTick, clockwork, alive, deviceTick, DeviceWaited, plusDevice, deviceWaited}
 use Rattle.waits.specs.Jump.{Quiet, counts, runs, jumpedCounters, jumped, above, watched, gap, divided, quietTicks}
+use Rattle.device.proofs.LineLaws.{differ-same}
 use Rattle.device.proofs.ClockLaws.{clock-still}
 use Rattle.device.proofs.WaitLaws.{device-wait-go}
 
@@ -41,18 +42,21 @@ cycle-jump boots k d q =
     (q .cycle)
 
 -- the watchdog's part of a tick that does not come to its period
-watchdog-one :
-    (d : Device)
-    → (counts d ≡ true → eqb (d .counters .delay) 0 ≡ true → d .counters .watchdog + 1 < periodOf (getD (d .regs) watchdogAt 0))
-    → watchdogTick (oscon (d .counters)) d
-    ≡ withCounters d
-    (record {
+abbrev watchdogCounters : Device → Counters
+watchdogCounters d =
+    record {
       divider = d .counters .divider;
       startup = d .counters .startup;
       watchdog = pick (counts d && eqb (d .counters .delay) 0) (d .counters .watchdog + 1) (d .counters .watchdog);
       delay = pick (counts d) (d .counters .delay - 1) (d .counters .delay);
       pulse = d .counters .pulse - 1;
-    })
+    }
+
+watchdog-one :
+    (d : Device)
+    → (counts d ≡ true → eqb (d .counters .delay) 0 ≡ true → d .counters .watchdog + 1 < periodOf (getD (d .regs) watchdogAt 0))
+    → watchdogTick (oscon (d .counters)) d
+    ≡ withCounters d (watchdogCounters d)
 unfolding watchdogTick
 watchdog-one d h =
     by-cases (counts d)
@@ -102,14 +106,7 @@ clockwork-one :
 unfolding clockwork
 clockwork-one boots d steady w h small =
     let counted : Bool = oscon (d .counters) in
-    let e : Device = withCounters d
-    (record {
-      divider = d .counters .divider;
-      startup = d .counters .startup;
-      watchdog = pick (counts d && eqb (d .counters .delay) 0) (d .counters .watchdog + 1) (d .counters .watchdog);
-      delay = pick (counts d) (d .counters .delay - 1) (d .counters .delay);
-      pulse = d .counters .pulse - 1;
-    }) in
+    let e : Device = withCounters d (watchdogCounters d) in
     ap (λ (x : Device). alarmTick counted x (calendarTick counted x)) (ap (watchdogTick counted) (oscillator-one boots d steady) ∙ watchdog-one d w)
     ∙ clock-one counted e h small
 
@@ -148,10 +145,6 @@ quiet-less boots k d q =
     }
 
 -- changes no line
-differ-same : (a : Bool) → differ a a ≡ false
-differ-same true = refl
-differ-same false = refl
-
 same-above : (n : ℕ) → (n ≡ 0) ⊎ (1 < n) → ltb 0 (n - 1) ≡ ltb 0 n
 same-above n = ⊎-elim (λ z. rw z) (λ l. lt-ltb 0 (n - 1) (omega arith) ∙ sym (lt-ltb 0 n (omega arith)))
 

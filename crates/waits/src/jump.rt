@@ -7,7 +7,11 @@ use record::limits::STARTUP_TICKS;
 ghost use mathlib.Core.Path.{_≡_};
 ghost use Prim.Native.Nat.{_+_, _-_, _<_, min};
 ghost use Rattle.base.specs.Words.{pick};
+ghost use Rattle.record.specs.Registers.{dividerTicks};
 ghost use Rattle.waits.specs.Jump.{counts, runs, jumped, above, watched, gap, divided, Quiet, quietTicks};
+
+// The ticks of a second.
+const SECOND: u64 = record::limits::DIVIDER_TICKS as u64;
 
 // A count that falls by k, down to 0.
 fn fallen(n: u64, k: u64) -> u64
@@ -66,11 +70,11 @@ fn watchdog_quiet(limit: u64, d: Device) -> u64
 
 // How many ticks from a divider on advance no hundredth.
 fn hundredth_gap(s: u64) -> u64
-    requires { ⌜ s < 32768 ⌝ }
+    requires { ⌜ s < dividerTicks ⌝ }
     ensures { λ r. ⌜ r ≡ gap s ⌝ }
 {
-    let q = 100 * s / 32768 + 1;
-    fallen((q * 32768 - 1) / 100, s)
+    let q = 100 * s / SECOND + 1;
+    fallen((q * SECOND - 1) / 100, s)
 }
 
 fn divider_quiet(limit: u64, d: Device) -> u64
@@ -80,7 +84,7 @@ fn divider_quiet(limit: u64, d: Device) -> u64
     let running = clock_runs(d);
     if running {
         let s = c.divider as u64;
-        if s < 32768 {
+        if s < SECOND {
             return least(limit, hundredth_gap(s));
         }
         return 0;

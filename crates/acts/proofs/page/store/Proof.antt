@@ -12,10 +12,10 @@ use Rattle.acts.proofs.page.store.Statement.{statement}
 use Rattle.acts.proofs.page.store.Tie as tie
 
 abbrev Inv-loop : tie.InvT-loop
-Inv-loop m₀ base set bytes k₀ m k = (k ≤ 8) × (length m ≡ length m₀) × (m ≡ storeUnder m₀ base set bytes k)
+Inv-loop m₀ set bytes k₀ m k = (k ≤ 8) × (length m ≡ length m₀) × (m ≡ storeUnder m₀ 0 set bytes k)
 
 abbrev μ-loop : tie.MeasureT-loop
-μ-loop m₀ base set bytes k₀ m k = 8 - k
+μ-loop m₀ set bytes k₀ m k = 8 - k
 
 loop-holds : tie.Need-loop-holds Inv-loop μ-loop
 loop-holds c = (omega arith, refl, sym (store-none _ _ _ _))
@@ -24,8 +24,8 @@ loop-again : tie.Need-loop-again Inv-loop μ-loop
 loop-again c =
     let l = c .before .before .loop in
     ⊎-elim
-    (λ w. (omega arith, ap length (w .1) ∙ simp length-set (l .inv .1), stored _ _ _ _ _ _ _ (l .inv .2) (w .0 .taken) (w .1)))
-    (λ w. (omega arith, ap length (w .1) ∙ l .inv .1, skipped _ _ _ _ _ _ _ (l .inv .2) (w .0 .left) (w .1)))
+    (λ w. (omega arith, ap length (w .1) ∙ simp length-set (l .inv .1), stored _ _ _ _ _ _ (l .inv .2) (w .0 .taken) (w .1)))
+    (λ w. (omega arith, ap length (w .1) ∙ l .inv .1, skipped _ _ _ _ _ _ (l .inv .2) (w .0 .left) (w .1)))
     (c .if1 .came)
 
 returns : tie.Need-returns Inv-loop μ-loop
@@ -38,7 +38,6 @@ store-spec =
     Inv-loop
     μ-loop
     loop-holds
-    (λ c. omega arith)
     (λ c. omega arith)
     (λ c. omega arith)
     (λ c. omega arith)
