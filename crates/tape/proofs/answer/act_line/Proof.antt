@@ -11,7 +11,7 @@ use Rattle.record.specs.Part.{sizeOf}
 use Rattle.device.specs.World.{world}
 use Rattle.acts.specs.Act.{Outcome, performed}
 use Rattle.base.proofs.Tests.{yes, no}
-use Rattle.tape.specs.Text.{buffer}
+use Rattle.text.specs.Text.{buffer}
 use Rattle.tape.specs.Answer.{outcomeAnswer, shownIn}
 use Rattle.tape.proofs.AnswerLaws.{size-within, outcome-shown}
 use borrow.Author.Needs.{needs}

@@ -9,7 +9,7 @@ use lib.ListN.{replicate}
 use borrow.Author.Tests.{not-true, not-false}
 use Rattle.base.proofs.Tests.{yes, no}
 use Rattle.record.specs.Part.{isPart}
-use Rattle.tape.specs.Text.{buffer}
+use Rattle.text.specs.Text.{buffer}
 use Rattle.tape.specs.Answer.{shownIn}
 use Rattle.tape.proofs.AnswerLaws.{fresh-shown}
 use borrow.Author.Needs.{needs}

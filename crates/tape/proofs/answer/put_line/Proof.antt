@@ -4,8 +4,8 @@ use mathlib.Core.Path.{_≡_, ap, _∙_}
 use mathlib.Core.Bool.{Bool, not, _||_}
 use lib.Dec.{eqb}
 use Rattle.device.specs.Lines.{irqLow, wdoLow}
-use Rattle.tape.specs.Text.{buffer, append}
-use Rattle.tape.specs.Print.{outOf, answerLine}
+use Rattle.text.specs.Text.{buffer, append}
+use Rattle.text.specs.Print.{outOf, answerLine}
 use borrow.Author.Needs.{needs}
 use Rattle.tape.proofs.answer.put_line.Statement.{statement}
 use Rattle.tape.proofs.answer.put_line.Tie as tie

@@ -1,6 +1,6 @@
 -- `tape::answer::refused_line` meets its contract.
 -- Assumes nothing.
-use Rattle.tape.specs.Text.{buffer}
+use Rattle.text.specs.Text.{buffer}
 use Rattle.tape.proofs.AnswerLaws.{refused-shown}
 use borrow.Author.Needs.{needs}
 use Rattle.tape.proofs.answer.refused_line.Statement.{statement}

@@ -6,7 +6,7 @@ use mathlib.Core.List.{List, _++_}
 use Prim.Native.Nat.{ℕ}
 use lib.ListN.{take}
 use lib.Seq.{length-take-le}
-use Rattle.tape.specs.Text.{buffer}
+use Rattle.text.specs.Text.{buffer}
 use Rattle.tape.specs.Answer.{setupOf, lineAnswer, shownIn}
 use Rattle.tape.specs.Tape.{kept}
 use Rattle.tape.proofs.TapeLaws.{kept-answers}

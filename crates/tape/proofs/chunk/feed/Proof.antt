@@ -4,7 +4,7 @@ use mathlib.Core.Path.{sym, ap, _∙_}
 use mathlib.Core.Bool.{Bool}
 use lib.ListN.{length}
 use Rattle.base.proofs.Tests.{no}
-use Rattle.tape.specs.Text.{buffer}
+use Rattle.text.specs.Text.{buffer}
 use Rattle.tape.specs.Tape.{feedInto, stateOf}
 use Rattle.tape.proofs.TapeLaws.{fit-facts}
 use borrow.Author.Needs.{needs}

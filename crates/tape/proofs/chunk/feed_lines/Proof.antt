@@ -9,10 +9,10 @@ use mathlib.Core.Logic.{inl, inr, ⊎-elim}
 use lib.Dec.{ltb, eqb}
 use borrow.Author.Tests.{eqb-true, eqb-false, ltb-true, ltb-false}
 use Rattle.base.proofs.Tests.{either, neither-left, neither-right}
-use Rattle.tape.specs.Print.{answerRoom}
+use Rattle.text.specs.Print.{answerRoom}
 use Prim.Native.Nat.{ℕ, _+_, _-_, _<_, _≤_}
 use lib.ListN.{length, take, drop, length-take}
-use Rattle.tape.specs.Text.{buffer}
+use Rattle.text.specs.Text.{buffer}
 use Rattle.tape.specs.Answer.{Shown, setupOf, shownIn, lineAnswer}
 use Rattle.tape.specs.Tape.{keptLimit, kept, state, stateOf}
 use Rattle.tape.proofs.TapeLaws.{Sofar, sofar-start, sofar-done, end-within, turn-stop, turn-line, stops, goes}

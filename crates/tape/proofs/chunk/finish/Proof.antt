@@ -8,7 +8,7 @@ use lib.Dec.{leb}
 use lib.ListN.{length}
 use borrow.Author.Tests.{leb-true, not-true, not-false}
 use Rattle.base.proofs.Tests.{yes, no, both-true}
-use Rattle.tape.specs.Print.{answerRoom}
+use Rattle.text.specs.Print.{answerRoom}
 use Rattle.tape.specs.Tape.{finishInto}
 use Rattle.tape.proofs.TapeLaws.{fit-facts}
 use borrow.Author.Needs.{needs}

@@ -6,7 +6,7 @@ use mathlib.Core.List.{[]}
 use Prim.Native.Nat.{ℕ}
 use lib.ListN.{length, take}
 use lib.Seq.{length-take-le}
-use Rattle.tape.specs.Text.{buffer}
+use Rattle.text.specs.Text.{buffer}
 use Rattle.tape.specs.Answer.{Shown}
 use Rattle.tape.specs.Tape.{state, stateOf}
 use Rattle.tape.proofs.TapeLaws.{finish-none, finish-some}

@@ -5,9 +5,9 @@ use mathlib.Core.Path.{_≡_, refl, sym, ap, _∙_}
 use mathlib.Core.Bool.{not}
 use Prim.Native.Nat.{_+_, _≤_, _-_}
 use lib.ListN.{length, drop}
-use Rattle.tape.specs.Text.{leading}
+use Rattle.text.specs.Text.{leading}
+use Rattle.text.proofs.TextLaws.{leading-more, leading-stops, leading-whole}
 use Rattle.tape.specs.Tape.{plain}
-use Rattle.tape.proofs.TextLaws.{leading-more, leading-stops, leading-whole}
 use Rattle.tape.proofs.chunk.line_end.Statement.{statement}
 use Rattle.tape.proofs.chunk.line_end.Tie as tie
 
