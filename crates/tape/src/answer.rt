@@ -9,7 +9,7 @@ ghost use mathlib.Core.Bool.{not, _||_};
 ghost use mathlib.Core.List.{List};
 ghost use Prim.Native.Nat.{ℕ, _+_, _≤_};
 ghost use lib.Dec.{eqb};
-ghost use lib.ListN.{length, replicate};
+ghost use lib.ListN.{length};
 ghost use Rattle.record.specs.Part.{idSize};
 ghost use Rattle.device.specs.Lines.{irqLow, wdoLow};
 ghost use Rattle.text.specs.Text.{buffer, append};
@@ -57,17 +57,6 @@ fn refused_line(number: u8, p: Progress, out: &mut [u8]) -> Progress
     }
 }
 
-// Every byte FFh.
-fn erase(m: &mut [u8])
-    ensures { λ r. ⌜ now (m .exit) ≡ replicate (length (now (m .entry))) 255 ⌝ }
-{
-    let mut i: usize = 0;
-    while i < m.len() {
-        m[i] = 0xff;
-        i += 1;
-    }
-}
-
 // A line `op=part`: the first of a part that there is makes a fresh chip.
 fn part_line(n: u64, p: Progress, eeprom: &mut [u8], id: &mut [u8], out: &mut [u8]) -> Progress
     requires { ⌜ (length (now eeprom) ≡ eepromRoom) × (length (now id) ≡ idSize) × (p .at + answerRoom ≤ length (now out)) ⌝ }
@@ -81,8 +70,8 @@ fn part_line(n: u64, p: Progress, eeprom: &mut [u8], id: &mut [u8], out: &mut [u
     if !is_part {
         return refused_line(3, p, out);
     }
-    erase(eeprom);
-    erase(id);
+    acts::page::erase(eeprom);
+    acts::page::erase(id);
     let fresh = record::fresh_device();
     let at = p.at;
     let place = put_line(0, false, Reply::Off, 0, n, fresh, out, at);

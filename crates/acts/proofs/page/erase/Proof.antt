@@ -1,4 +1,4 @@
--- `run::fill` meets its contract: after i turns the first i bytes are FFh.
+-- `acts::page::erase` meets its contract: after i turns the first i bytes are FFh.
 -- Assumes nothing.
 use mathlib.Core.Path.{_≡_, refl, ap, _∙_}
 use mathlib.Core.List.{List, _++_, append-nil}
@@ -7,8 +7,8 @@ use native.Mathlib.Omega.{arith}
 use borrow.Author.Fill.{fill-more}
 use lib.ListN.{length, drop, set, replicate, length-set}
 use lib.Seq.{drop-length}
-use Rattle.run.proofs.fill.Statement.{statement}
-use Rattle.run.proofs.fill.Tie as tie
+use Rattle.acts.proofs.page.erase.Statement.{statement}
+use Rattle.acts.proofs.page.erase.Tie as tie
 
 abbrev Inv-loop : tie.InvT-loop
 Inv-loop m₀ i₀ m i = (i ≤ length m) × (length m ≡ length m₀) × (m ≡ replicate i 255 ++ drop i m₀)
@@ -32,8 +32,8 @@ returns c =
     l .inv .2 ∙ ap (λ (n : ℕ). replicate n 255 ++ drop n m) e ∙ ap (λ (x : List ℕ). replicate (length m) 255 ++ x) (drop-length m)
     ∙ append-nil _
 
-pub fill-spec : {M : Type 1} → statement M
-fill-spec =
+pub erase-spec : {M : Type 1} → statement M
+erase-spec =
     tie.close
     (tie.spec
     Inv-loop
