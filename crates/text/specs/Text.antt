@@ -28,13 +28,17 @@ unfoldable pub leading : (ℕ → Bool) → List ℕ → ℕ
 leading kind [] = 0
 leading kind (b ∷ s) = pick (kind b) (suc (leading kind s)) 0
 
+-- a byte from low to high
+abbrev pub between : ℕ → ℕ → ℕ → Bool
+between low high b = leb low b && leb b high
+
 -- a small letter, `a` to `z`
 abbrev pub letter : ℕ → Bool
-letter b = leb 0x61 b && leb b 0x7a
+letter b = between 0x61 0x7a b
 
 -- a digit, `0` to `9`
 abbrev pub digit : ℕ → Bool
-digit b = leb 0x30 b && leb b 0x39
+digit b = between 0x30 0x39 b
 
 -- a buffer, and the place where the next byte goes
 pub record Buffer : Type 0 where

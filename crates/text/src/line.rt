@@ -6,7 +6,7 @@ use record::Act;
 ghost use mathlib.Core.Path.{_≡_};
 ghost use Prim.Native.Nat.{_≤_};
 ghost use lib.ListN.{length, take, drop};
-ghost use Rattle.text.specs.Text.{agreed, isWord, leading, letter, digit};
+ghost use Rattle.text.specs.Text.{agreed, isWord, leading, between};
 ghost use Rattle.text.specs.Line.{opText, argText, nameSize, inForm, nameOf};
 ghost use Rattle.text.specs.Request.{asked, unknownName, requestOf};
 
@@ -62,30 +62,14 @@ fn is_word(word: &[u8], s: &[u8]) -> bool
     n == word.len()
 }
 
-// How many of the first bytes of s are small letters.
-fn letters(s: &[u8]) -> usize
-    ensures { λ r. ⌜ r ≡ leading letter (now (s .entry)) ⌝ }
+// How many of the first bytes of s lie from low to high.
+fn leading_of(low: u8, high: u8, s: &[u8]) -> usize
+    ensures { λ r. ⌜ r ≡ leading (between low high) (now (s .entry)) ⌝ }
 {
     let mut i: usize = 0;
     while i < s.len() {
         let b = s[i];
-        let of_kind = (0x61 <= b) & (b <= 0x7a);
-        if !of_kind {
-            return i;
-        }
-        i += 1;
-    }
-    i
-}
-
-// How many of the first bytes of s are digits.
-fn digits_of(s: &[u8]) -> usize
-    ensures { λ r. ⌜ r ≡ leading digit (now (s .entry)) ⌝ }
-{
-    let mut i: usize = 0;
-    while i < s.len() {
-        let b = s[i];
-        let of_kind = (0x30 <= b) & (b <= 0x39);
+        let of_kind = (low <= b) & (b <= high);
         if !of_kind {
             return i;
         }
@@ -98,7 +82,7 @@ fn digits_of(s: &[u8]) -> usize
 pub fn name_size(line: &[u8]) -> usize
     ensures { λ r. ⌜ r ≡ nameSize (now (line .entry)) ⌝ }
 {
-    letters(rest(line, 3))
+    leading_of(b'a', b'z', rest(line, 3))
 }
 
 // The name of a line, of n letters.
@@ -130,7 +114,7 @@ fn in_form(line: &[u8], n: usize) -> bool
     let op = agreement(b"op=", line);
     let arg = agreement(b" arg=", after_name(line, n));
     let text = digits(line, n);
-    let run = digits_of(text);
+    let run = leading_of(b'0', b'9', text);
     (op == 3) & (0 < n) & (arg == 5) & (0 < text.len()) & (run == text.len())
 }
 

@@ -10,36 +10,6 @@ use borrow.Author.Needs.{needs}
 use Rattle.tape.proofs.answer.answer_line.Statement.{statement}
 use Rattle.tape.proofs.answer.answer_line.Tie as tie
 
-request-requires : tie.Need-request-requires
-request-requires c κs = search needs
-
-enum-known-r : tie.Need-enum-known-r
-enum-known-r c = search needs
-
-part-line-requires : tie.Need-part-line-requires
-part-line-requires c κs = search needs
-
-enum-known-r-2 : tie.Need-enum-known-r-2
-enum-known-r-2 c = search needs
-
-act-line-requires : tie.Need-act-line-requires
-act-line-requires c κs = search needs
-
-enum-told : tie.Need-enum-told
-enum-told c = search needs
-
-refused-line-requires : tie.Need-refused-line-requires
-refused-line-requires c κs = search needs
-
-same-length : tie.Need-same-length
-same-length c = search needs
-
-same-length-2 : tie.Need-same-length-2
-same-length-2 c = search needs
-
-same-length-3 : tie.Need-same-length-3
-same-length-3 c = search needs
-
 returns : tie.Need-returns
 unfolding lineAnswer
 returns c =
@@ -48,15 +18,6 @@ returns c =
     c .before .before .before .before .before .before .part-line .ensures
     ∙ ap (λ (r : Request). shownIn (buffer (a .out .now) (a .p .at)) (requestAnswer r (setupOf (a .p .part) (a .p .device) (a .eeprom .now) (a .id .now)))) (sym e)
 
-same-length-4 : tie.Need-same-length-4
-same-length-4 c = search needs
-
-same-length-5 : tie.Need-same-length-5
-same-length-5 c = search needs
-
-same-length-6 : tie.Need-same-length-6
-same-length-6 c = search needs
-
 returns-2 : tie.Need-returns-2
 unfolding lineAnswer
 returns-2 c =
@@ -64,9 +25,6 @@ returns-2 c =
     let e : requestOf (a .line .now) ≡ ActLine _ _ = sym (c .before .before .before .before .before .before .before .before .before .before .before .before .before .request .ensures) ∙ c .before .before .before .before .before .before .before .before .before .before .before .r2 .given .1 in
     c .before .before .before .before .before .before .act-line .ensures
     ∙ ap (λ (r : Request). shownIn (buffer (a .out .now) (a .p .at)) (requestAnswer r (setupOf (a .p .part) (a .p .device) (a .eeprom .now) (a .id .now)))) (sym e)
-
-same-length-7 : tie.Need-same-length-7
-same-length-7 c = search needs
 
 returns-3 : tie.Need-returns-3
 unfolding lineAnswer
@@ -80,20 +38,20 @@ pub answer-line-spec : {M : Type 1} → statement M
 answer-line-spec =
     tie.close
     (tie.spec
-    request-requires
-    enum-known-r
-    part-line-requires
-    enum-known-r-2
-    act-line-requires
-    enum-told
-    refused-line-requires
-    same-length
-    same-length-2
-    same-length-3
+    (λ c κs. search needs)
+    (λ c. search needs)
+    (λ c κs. search needs)
+    (λ c. search needs)
+    (λ c κs. search needs)
+    (λ c. search needs)
+    (λ c κs. search needs)
+    (λ c. search needs)
+    (λ c. search needs)
+    (λ c. search needs)
     returns
-    same-length-4
-    same-length-5
-    same-length-6
+    (λ c. search needs)
+    (λ c. search needs)
+    (λ c. search needs)
     returns-2
-    same-length-7
+    (λ c. search needs)
     returns-3)

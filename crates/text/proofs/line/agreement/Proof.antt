@@ -1,4 +1,4 @@
--- `tape::line::agreement` meets its contract: the bytes passed and those that agree in what is left are those that agree.
+-- `text::line::agreement` meets its contract: the bytes passed and those that agree in what is left are those that agree.
 -- Assumes nothing.
 use borrow.Author.Tests.{not-true, not-false}
 use native.Mathlib.Omega.{arith}
@@ -24,22 +24,10 @@ returns c =
     let b = c .before in
     sym (agreed-short _ _ _ (b .loop-test .taken) (c .if1 .taken)) ∙ b .before .loop .inv .1
 
-shared-slice-read-same : tie.Need-shared-slice-read-same Inv-loop μ-loop
-shared-slice-read-same c = omega arith
-
-shared-slice-read-same-2 : tie.Need-shared-slice-read-same-2 Inv-loop μ-loop
-shared-slice-read-same-2 c = omega arith
-
 returns-2 : tie.Need-returns-2 Inv-loop μ-loop
 returns-2 c =
     let b = c .before .before .before .before in
     sym (agreed-stops _ _ _ (b .loop-test .taken) (c .before .before .before .if1 .left) (not-true _ (c .if2 .taken))) ∙ b .before .loop .inv .1
-
-add-i : tie.Need-add-i Inv-loop μ-loop
-add-i c = omega arith
-
-loop-less : tie.Need-loop-less Inv-loop μ-loop
-loop-less c = omega arith
 
 loop-again : tie.Need-loop-again Inv-loop μ-loop
 loop-again c =
@@ -56,4 +44,15 @@ returns-3 c =
 pub agreement-spec : {M : Type 1} → statement M
 agreement-spec =
     tie.close
-    (tie.spec Inv-loop μ-loop loop-holds returns shared-slice-read-same shared-slice-read-same-2 returns-2 add-i loop-less loop-again returns-3)
+    (tie.spec
+    Inv-loop
+    μ-loop
+    loop-holds
+    returns
+    (λ c. omega arith)
+    (λ c. omega arith)
+    returns-2
+    (λ c. omega arith)
+    (λ c. omega arith)
+    loop-again
+    returns-3)

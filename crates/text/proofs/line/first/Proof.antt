@@ -1,4 +1,4 @@
--- `tape::line::first` meets its contract.
+-- `text::line::first` meets its contract.
 -- Assumes nothing.
 use native.Mathlib.Omega.{arith}
 use mathlib.Core.Path.{_≡_, sym}
@@ -15,11 +15,10 @@ returns c =
     let h : length (a .s .now) ≤ a .n = omega arith in
     sym (take-all _ _ h)
 
-slice-aggregate-result : tie.Need-slice-aggregate-result
-slice-aggregate-result c = sym (length-take-le _ _ (omega arith))
-
-returns-2 : tie.Need-returns-2
-returns-2 c = search needs
-
 pub first-spec : {M : Type 1} → statement M
-first-spec = tie.close (tie.spec returns slice-aggregate-result returns-2)
+first-spec =
+    tie.close
+    (tie.spec
+    returns
+    (λ c. sym (length-take-le _ _ (omega arith)))
+    (λ c. search needs))

@@ -1,4 +1,4 @@
--- `tape::line::in_form` meets its contract: each test is one of the form, of the part that the code takes for it.
+-- `text::line::in_form` meets its contract: each test is one of the form, of the part that the code takes for it.
 -- Assumes nothing.
 use mathlib.Core.Path.{_≡_, ap, _∙_}
 use Prim.Native.Nat.{ℕ}
@@ -8,27 +8,6 @@ use Rattle.text.specs.Line.{argText, nameSize, afterName, digitsText, in
 use borrow.Author.Needs.{needs}
 use Rattle.text.proofs.line.in_form.Statement.{statement}
 use Rattle.text.proofs.line.in_form.Tie as tie
-
-slice-aggregate-agreement : tie.Need-slice-aggregate-agreement
-slice-aggregate-agreement c = search needs
-
-agreement-requires : tie.Need-agreement-requires
-agreement-requires c κs = search needs
-
-slice-aggregate-agreement-2 : tie.Need-slice-aggregate-agreement-2
-slice-aggregate-agreement-2 c = search needs
-
-after-name-requires : tie.Need-after-name-requires
-after-name-requires c κs = search needs
-
-agreement-requires-2 : tie.Need-agreement-requires-2
-agreement-requires-2 c κs = search needs
-
-digits-requires : tie.Need-digits-requires
-digits-requires c κs = search needs
-
-digits-of-requires : tie.Need-digits-of-requires
-digits-of-requires c κs = search needs
 
 returns : tie.Need-returns
 unfolding inForm digitsText
@@ -40,17 +19,17 @@ returns c =
     let a : c .before .before .agreement2 .result ≡ agreed argText (afterName l) =
     c .before .before .agreement2 .ensures
     ∙ ap (agreed argText) (c .before .before .before .after-name .ensures ∙ ap (λ (k : ℕ). drop k (drop 3 l)) n) in
-    simp (c .before .before .before .before .before .agreement .ensures, n, a, c .digits-of .ensures, t)
+    simp (c .before .before .before .before .before .agreement .ensures, n, a, c .leading-of .ensures, t)
 
 pub in-form-spec : {M : Type 1} → statement M
 in-form-spec =
     tie.close
     (tie.spec
-    slice-aggregate-agreement
-    agreement-requires
-    slice-aggregate-agreement-2
-    after-name-requires
-    agreement-requires-2
-    digits-requires
-    digits-of-requires
+    (λ c. search needs)
+    (λ c κs. search needs)
+    (λ c. search needs)
+    (λ c κs. search needs)
+    (λ c κs. search needs)
+    (λ c κs. search needs)
+    (λ c κs. search needs)
     returns)

@@ -1,4 +1,4 @@
--- `tape::line::is_word` meets its contract.
+-- `text::line::is_word` meets its contract.
 -- Assumes nothing.
 use borrow.Author.Tests.{not-true, not-false}
 use lib.Dec.{eqb}
@@ -12,13 +12,15 @@ returns c =
     let a = c .before .before .before .args in
     simp (not-true (eqb (length (a .s .now)) (length (a .word .now))) (c .if1 .taken))
 
-agreement-requires : tie.Need-agreement-requires
-agreement-requires c κs = search needs
-
 returns-2 : tie.Need-returns-2
 returns-2 c =
     let a = c .before .before .before .before .args in
     simp (not-false (eqb (length (a .s .now)) (length (a .word .now))) (c .before .if1 .left), c .agreement .ensures)
 
 pub is-word-spec : {M : Type 1} → statement M
-is-word-spec = tie.close (tie.spec returns agreement-requires returns-2)
+is-word-spec =
+    tie.close
+    (tie.spec
+    returns
+    (λ c κs. search needs)
+    returns-2)

@@ -1,4 +1,4 @@
--- `tape::line::name_text` meets its contract.
+-- `text::line::name_text` meets its contract.
 -- Assumes nothing.
 use mathlib.Core.Path.{ap, _∙_}
 use lib.ListN.{take}
@@ -6,14 +6,13 @@ use borrow.Author.Needs.{needs}
 use Rattle.text.proofs.line.name_text.Statement.{statement}
 use Rattle.text.proofs.line.name_text.Tie as tie
 
-rest-requires : tie.Need-rest-requires
-rest-requires c κs = search needs
-
-first-requires : tie.Need-first-requires
-first-requires c κs = search needs
-
 returns : tie.Need-returns
 returns c = c .first .ensures ∙ ap (take (c .before .before .before .args .n)) (c .before .rest .ensures)
 
 pub name-text-spec : {M : Type 1} → statement M
-name-text-spec = tie.close (tie.spec rest-requires first-requires returns)
+name-text-spec =
+    tie.close
+    (tie.spec
+    (λ c κs. search needs)
+    (λ c κs. search needs)
+    returns)

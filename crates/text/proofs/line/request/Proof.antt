@@ -1,4 +1,4 @@
--- `tape::line::request` meets its contract: the tests in their order, each of the part that the code takes for it.
+-- `text::line::request` meets its contract: the tests in their order, each of the part that the code takes for it.
 -- Assumes nothing.
 use mathlib.Core.Path.{_≡_, sym, ap, _∙_}
 use mathlib.Core.Bool.{not, false}
@@ -19,26 +19,11 @@ returns : tie.Need-returns
 unfolding requestOf digitsText
 returns c = yes _ _ (c .if1 .taken)
 
-name-size-requires : tie.Need-name-size-requires
-name-size-requires c κs = search needs
-
-in-form-requires : tie.Need-in-form-requires
-in-form-requires c κs = search needs
-
 returns-2 : tie.Need-returns-2
 unfolding requestOf digitsText
 returns-2 c =
     yes _ _ (ap not (sym (c .before .in-form .ensures)) ∙ c .if2 .taken)
     ∙ no _ _ (c .before .before .before .if1 .left)
-
-name-text-requires : tie.Need-name-text-requires
-name-text-requires c κs = search needs
-
-name-of-requires : tie.Need-name-of-requires
-name-of-requires c κs = search needs
-
-unknown-name-requires : tie.Need-unknown-name-requires
-unknown-name-requires c κs = search needs
 
 returns-3 : tie.Need-returns-3
 unfolding requestOf digitsText
@@ -50,12 +35,6 @@ returns-3 c =
     yes _ _ (ap unknownName (sym e) ∙ sym (c .before .unknown-name .ensures) ∙ c .if3 .taken)
     ∙ no _ _ (ap not (sym (c .before .before .before .before .before .in-form .ensures)) ∙ c .before .before .before .before .if2 .left)
     ∙ no _ _ (c .before .before .before .before .before .before .before .if1 .left)
-
-digits-requires : tie.Need-digits-requires
-digits-requires c κs = search needs
-
-bad-digits-requires : tie.Need-bad-digits-requires
-bad-digits-requires c κs = search needs
 
 returns-4 : tie.Need-returns-4
 unfolding requestOf digitsText
@@ -70,12 +49,6 @@ returns-4 c =
     ∙ no _ _ (ap unknownName (sym e) ∙ sym (c .before .before .before .before .unknown-name .ensures) ∙ c .before .before .before .if3 .left)
     ∙ no _ _ (ap not (sym (c .before .before .before .before .before .before .before .before .in-form .ensures)) ∙ c .before .before .before .before .before .before .before .if2 .left)
     ∙ no _ _ (c .before .before .before .before .before .before .before .before .before .before .if1 .left)
-
-number-requires : tie.Need-number-requires
-number-requires c κs = search needs
-
-asked-for-requires : tie.Need-asked-for-requires
-asked-for-requires c κs = search needs
 
 returns-5 : tie.Need-returns-5
 unfolding requestOf digitsText
@@ -100,16 +73,16 @@ request-spec =
     tie.close
     (tie.spec
     returns
-    name-size-requires
-    in-form-requires
+    (λ c κs. search needs)
+    (λ c κs. search needs)
     returns-2
-    name-text-requires
-    name-of-requires
-    unknown-name-requires
+    (λ c κs. search needs)
+    (λ c κs. search needs)
+    (λ c κs. search needs)
     returns-3
-    digits-requires
-    bad-digits-requires
+    (λ c κs. search needs)
+    (λ c κs. search needs)
     returns-4
-    number-requires
-    asked-for-requires
+    (λ c κs. search needs)
+    (λ c κs. search needs)
     returns-5)

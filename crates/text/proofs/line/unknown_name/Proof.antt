@@ -1,17 +1,8 @@
--- `tape::line::unknown_name` meets its contract.
+-- `text::line::unknown_name` meets its contract.
 -- Assumes nothing.
 use borrow.Author.Needs.{needs}
 use Rattle.text.proofs.line.unknown_name.Statement.{statement}
 use Rattle.text.proofs.line.unknown_name.Tie as tie
-
-enum-told : tie.Need-enum-told
-enum-told c = search needs
-
-enum-told-2 : tie.Need-enum-told-2
-enum-told-2 c = search needs
-
-enum-told-3 : tie.Need-enum-told-3
-enum-told-3 c = search needs
 
 returns : tie.Need-returns
 returns c = simp (c .enum-told .given .1)
@@ -24,4 +15,11 @@ returns-3 c = simp (c .enum-told3 .given .1)
 
 pub unknown-name-spec : {M : Type 1} → statement M
 unknown-name-spec =
-    tie.close (tie.spec enum-told enum-told-2 enum-told-3 returns returns-2 returns-3)
+    tie.close
+    (tie.spec
+    (λ c. search needs)
+    (λ c. search needs)
+    (λ c. search needs)
+    returns
+    returns-2
+    returns-3)

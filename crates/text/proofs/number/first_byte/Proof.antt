@@ -1,4 +1,4 @@
--- `tape::number::first_byte` meets its contract.
+-- `text::number::first_byte` meets its contract.
 -- Assumes nothing.
 use native.Mathlib.Omega.{arith}
 use mathlib.Core.Path.{_≡_, sym}
@@ -8,16 +8,15 @@ use borrow.Author.Needs.{needs}
 use Rattle.text.proofs.number.first_byte.Statement.{statement}
 use Rattle.text.proofs.number.first_byte.Tie as tie
 
-shared-slice-read-result : tie.Need-shared-slice-read-result
-shared-slice-read-result c = search needs
-
-returns : tie.Need-returns
-returns c = search needs
-
 returns-2 : tie.Need-returns-2
 returns-2 c =
     let h : length (c .before .args .s .now) ≤ 0 = omega arith in
     sym (List·getD-eq-default (c .before .args .s .now) 0 {n = 0} h)
 
 pub first-byte-spec : {M : Type 1} → statement M
-first-byte-spec = tie.close (tie.spec shared-slice-read-result returns returns-2)
+first-byte-spec =
+    tie.close
+    (tie.spec
+    (λ c. search needs)
+    (λ c. search needs)
+    returns-2)

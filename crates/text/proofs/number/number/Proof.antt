@@ -1,4 +1,4 @@
--- `tape::number::number` meets its contract: what is left of the digits gives the same number.
+-- `text::number::number` meets its contract: what is left of the digits gives the same number.
 -- Assumes nothing.
 use borrow.Author.Needs.{needs}
 use native.Mathlib.Omega.{arith}
@@ -31,24 +31,12 @@ mul-value c =
     let h : l .i < 8 = omega arith in
     omega (arith, bound-small (l .i) h)
 
-shared-slice-read-digit-value : tie.Need-shared-slice-read-digit-value Inv-loop μ-loop
-shared-slice-read-digit-value c = omega arith
-
-digit-value-requires : tie.Need-digit-value-requires Inv-loop μ-loop
-digit-value-requires c κs = search needs
-
 add-value : tie.Need-add-value Inv-loop μ-loop
 add-value c =
     let l = c .before .before .before .before .loop in
     let h : l .i < 8 = omega arith in
     let b = c .before .shared-slice-known2 .given (l .i) in
     omega (arith, bound-small (l .i) h, c .digit-value .ensures, b)
-
-add-i : tie.Need-add-i Inv-loop μ-loop
-add-i c = omega arith
-
-loop-less : tie.Need-loop-less Inv-loop μ-loop
-loop-less c = omega arith
 
 loop-again : tie.Need-loop-again Inv-loop μ-loop
 loop-again c =
@@ -74,10 +62,10 @@ number-spec =
     loop-holds
     returns
     mul-value
-    shared-slice-read-digit-value
-    digit-value-requires
+    (λ c. omega arith)
+    (λ c κs. search needs)
     add-value
-    add-i
-    loop-less
+    (λ c. omega arith)
+    (λ c. omega arith)
     loop-again
     returns-2)

@@ -1,4 +1,4 @@
--- `tape::print::put_answer` meets its contract: its three parts, one after the other.
+-- `text::print::put_answer` meets its contract: its three parts, one after the other.
 -- Assumes nothing.
 use native.Mathlib.Omega.{arith}
 use mathlib.Core.Path.{_≡_, ap, sym, _∙_}
@@ -13,9 +13,6 @@ use Rattle.text.proofs.PrintLaws.{number-place}
 use borrow.Author.Needs.{needs}
 use Rattle.text.proofs.print.put_answer.Statement.{statement}
 use Rattle.text.proofs.print.put_answer.Tie as tie
-
-put-number-requires : tie.Need-put-number-requires
-put-number-requires c κs = search needs
 
 put-out-requires : tie.Need-put-out-requires
 put-out-requires c κs =
@@ -34,9 +31,6 @@ put-levels-requires c κs =
     let e = number-place (a .number) (a .out .now) (p .last .1 .0) (a .at) (p .result) (search needs) (p .ensures) in
     omega (arith, b .pre, e, q .ensures .1, p .kept .1 .0, q .kept .1 .1 .1 .1 .0)
 
-same-length : tie.Need-same-length
-same-length c = search needs
-
 returns : tie.Need-returns
 unfolding answerLine
 returns c =
@@ -52,4 +46,9 @@ returns c =
 pub put-answer-spec : {M : Type 1} → statement M
 put-answer-spec =
     tie.close
-    (tie.spec put-number-requires put-out-requires put-levels-requires same-length returns)
+    (tie.spec
+    (λ c κs. search needs)
+    put-out-requires
+    put-levels-requires
+    (λ c. search needs)
+    returns)

@@ -1,18 +1,9 @@
--- `tape::print::put_byte` meets its contract.
+-- `text::print::put_byte` meets its contract.
 -- Assumes nothing.
 use Rattle.text.proofs.TextLaws.{append-byte}
 use borrow.Author.Needs.{needs}
 use Rattle.text.proofs.print.put_byte.Statement.{statement}
 use Rattle.text.proofs.print.put_byte.Tie as tie
-
-slice-write-out : tie.Need-slice-write-out
-slice-write-out c = search needs
-
-add-result : tie.Need-add-result
-add-result c = search needs
-
-same-length : tie.Need-same-length
-same-length c = search needs
 
 returns : tie.Need-returns
 returns c =
@@ -20,4 +11,10 @@ returns c =
     append-byte (a .out .now) (a .at) (a .b)
 
 pub put-byte-spec : {M : Type 1} → statement M
-put-byte-spec = tie.close (tie.spec slice-write-out add-result same-length returns)
+put-byte-spec =
+    tie.close
+    (tie.spec
+    (λ c. search needs)
+    (λ c. search needs)
+    (λ c. search needs)
+    returns)

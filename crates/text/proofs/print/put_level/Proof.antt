@@ -1,4 +1,4 @@
--- `tape::print::put_level` meets its contract: a word and a level, one after the other.
+-- `text::print::put_level` meets its contract: a word and a level, one after the other.
 -- Assumes nothing.
 use native.Mathlib.Omega.{arith}
 use mathlib.Core.Path.{_≡_, ap, sym, _∙_}
@@ -12,12 +12,6 @@ use borrow.Author.Needs.{needs}
 use Rattle.text.proofs.print.put_level.Statement.{statement}
 use Rattle.text.proofs.print.put_level.Tie as tie
 
-put-requires : tie.Need-put-requires
-put-requires c κs = search needs
-
-level-requires : tie.Need-level-requires
-level-requires c κs = search needs
-
 put-byte-requires : tie.Need-put-byte-requires
 put-byte-requires c κs =
     let b = c .before .before .before .before .before .before .before .before in
@@ -25,9 +19,6 @@ put-byte-requires c κs =
     let p = c .before .before .before .before .put in
     let e = place (a .out .now) (p .last .1 .0) (a .at) (p .result) (a .word .now) (p .ensures) in
     omega (arith, b .pre, e, p .kept .1 .0)
-
-same-length : tie.Need-same-length
-same-length c = search needs
 
 returns : tie.Need-returns
 returns c =
@@ -41,4 +32,10 @@ returns c =
 
 pub put-level-spec : {M : Type 1} → statement M
 put-level-spec =
-    tie.close (tie.spec put-requires level-requires put-byte-requires same-length returns)
+    tie.close
+    (tie.spec
+    (λ c κs. search needs)
+    (λ c κs. search needs)
+    put-byte-requires
+    (λ c. search needs)
+    returns)

@@ -1,4 +1,4 @@
--- `tape::print::put_levels` meets its contract: the levels and the line's end, one after the other.
+-- `text::print::put_levels` meets its contract: the levels and the line's end, one after the other.
 -- Assumes nothing.
 use native.Mathlib.Omega.{arith}
 use mathlib.Core.Path.{_≡_, ap, sym, _∙_}
@@ -11,15 +11,6 @@ use Rattle.text.specs.Print.{levelText, irqWord, wdoWord, newline}
 use borrow.Author.Needs.{needs}
 use Rattle.text.proofs.print.put_levels.Statement.{statement}
 use Rattle.text.proofs.print.put_levels.Tie as tie
-
-slice-aggregate-put-level : tie.Need-slice-aggregate-put-level
-slice-aggregate-put-level c = search needs
-
-put-level-requires : tie.Need-put-level-requires
-put-level-requires c κs = search needs
-
-slice-aggregate-put-level-2 : tie.Need-slice-aggregate-put-level-2
-slice-aggregate-put-level-2 c = search needs
 
 put-level-requires-2 : tie.Need-put-level-requires-2
 put-level-requires-2 c κs =
@@ -39,9 +30,6 @@ put-byte-requires c κs =
     let f = place (p .last .1 .1 .0) (q .last .1 .1 .0) (p .result) (q .result) (wdoWord ++ (levelText (a .wdo) ∷ [])) (q .ensures) in
     omega (arith, b .pre, e, f, p .kept .1 .1 .0, q .kept .1 .1 .0)
 
-same-length : tie.Need-same-length
-same-length c = search needs
-
 returns : tie.Need-returns
 returns c =
     let a = c .before .before .before .before .before .before .before .before .before .before .before .before .before .before .before .args in
@@ -56,10 +44,10 @@ pub put-levels-spec : {M : Type 1} → statement M
 put-levels-spec =
     tie.close
     (tie.spec
-    slice-aggregate-put-level
-    put-level-requires
-    slice-aggregate-put-level-2
+    (λ c. search needs)
+    (λ c κs. search needs)
+    (λ c. search needs)
     put-level-requires-2
     put-byte-requires
-    same-length
+    (λ c. search needs)
     returns)

@@ -1,4 +1,4 @@
--- `tape::print::put_number` meets its contract: three texts, one after the other.
+-- `text::print::put_number` meets its contract: three texts, one after the other.
 -- Assumes nothing.
 use native.Mathlib.Omega.{arith}
 use mathlib.Core.Path.{_≡_, ap, sym, _∙_}
@@ -14,12 +14,6 @@ use borrow.Author.Needs.{needs}
 use Rattle.text.proofs.print.put_number.Statement.{statement}
 use Rattle.text.proofs.print.put_number.Tie as tie
 
-slice-aggregate-put : tie.Need-slice-aggregate-put
-slice-aggregate-put c = search needs
-
-put-requires : tie.Need-put-requires
-put-requires c κs = search needs
-
 put-decimal-requires : tie.Need-put-decimal-requires
 put-decimal-requires c κs =
     let b = c .before .before .before .before .before .before .before in
@@ -28,9 +22,6 @@ put-decimal-requires c κs =
     let e = place (a .out .now) (p .last .1 .0) (a .at) (p .result) noText (p .ensures) in
     let n : a .number < 2 ^ 64 = omega arith in
     omega (arith, b .pre, e, p .kept .1 .0, decimal-room (a .number) n)
-
-slice-aggregate-put-2 : tie.Need-slice-aggregate-put-2
-slice-aggregate-put-2 c = search needs
 
 put-requires-2 : tie.Need-put-requires-2
 put-requires-2 c κs =
@@ -42,9 +33,6 @@ put-requires-2 c κs =
     let f = place (p .last .1 .0) (q .last .1 .0) (p .result) (q .result) (decimalText (a .number)) (q .ensures) in
     let n : a .number < 2 ^ 64 = omega arith in
     omega (arith, b .pre, e, f, p .kept .1 .0, q .kept .1 .0, decimal-room (a .number) n)
-
-same-length : tie.Need-same-length
-same-length c = search needs
 
 returns : tie.Need-returns
 returns c =
@@ -60,10 +48,10 @@ pub put-number-spec : {M : Type 1} → statement M
 put-number-spec =
     tie.close
     (tie.spec
-    slice-aggregate-put
-    put-requires
+    (λ c. search needs)
+    (λ c κs. search needs)
     put-decimal-requires
-    slice-aggregate-put-2
+    (λ c. search needs)
     put-requires-2
-    same-length
+    (λ c. search needs)
     returns)

@@ -1,4 +1,4 @@
--- `tape::print::put_out` meets its contract: z for a refusal, then the count, then the reply.
+-- `text::print::put_out` meets its contract: z for a refusal, then the count, then the reply.
 -- Assumes nothing.
 use native.Mathlib.Omega.{arith}
 use mathlib.Core.Path.{_≡_, ap, sym, _∙_}
@@ -21,12 +21,6 @@ use borrow.Author.Needs.{needs}
 use Rattle.text.proofs.print.put_out.Statement.{statement}
 use Rattle.text.proofs.print.put_out.Tie as tie
 
-put-byte-requires : tie.Need-put-byte-requires
-put-byte-requires c κs = search needs
-
-same-length : tie.Need-same-length
-same-length c = search needs
-
 returns : tie.Need-returns
 returns c =
     let b = c .before .before .before .before .before .before in
@@ -42,9 +36,6 @@ put-decimal-requires c κs =
     let b = c .before .before .before .before in
     omega (arith, b .pre, decimal-room (b .args .count) (b .fits .count .fits))
 
-same-length-2 : tie.Need-same-length-2
-same-length-2 c = search needs
-
 returns-2 : tie.Need-returns-2
 returns-2 c =
     let b = c .before .before .before .before .before .before .before in
@@ -54,18 +45,6 @@ returns-2 c =
     let e = place (a .out .now) (p .last .1 .0) (a .at) (p .result) (decimalText (a .count)) (p .ensures) in
     let v : shown (a .count) ≡ outOf (a .number) (a .counted) (a .reply) (a .count) = yes _ _ (c .before .before .before .before .if2 .taken) ∙ yes _ _ (not-false (eqb (a .number) 0) (c .before .before .before .before .before .if1 .left)) in
     (p .ensures ∙ ap (λ (v : Out). append o (outText v)) v, omega (arith, e, decimal-room (a .count) (b .fits .count .fits)))
-
-enum-known-reply : tie.Need-enum-known-reply
-enum-known-reply c = search needs
-
-enum-told : tie.Need-enum-told
-enum-told c = search needs
-
-put-byte-requires-2 : tie.Need-put-byte-requires-2
-put-byte-requires-2 c κs = search needs
-
-same-length-3 : tie.Need-same-length-3
-same-length-3 c = search needs
 
 returns-3 : tie.Need-returns-3
 returns-3 c =
@@ -77,18 +56,12 @@ returns-3 c =
     let v : z ≡ outOf (a .number) (a .counted) (a .reply) (a .count) = ap replyOut (sym (c .before .before .before .before .enum-told .given .1)) ∙ no _ _ (c .before .before .before .before .before .before .if2 .left) ∙ yes _ _ (not-false (eqb (a .number) 0) (c .before .before .before .before .before .before .before .if1 .left)) in
     (p .ensures ∙ ap (λ (v : Out). append o (outText v)) v, omega (arith, e))
 
-cast-put-decimal : tie.Need-cast-put-decimal
-cast-put-decimal c = search needs
-
 put-decimal-requires-2 : tie.Need-put-decimal-requires-2
 put-decimal-requires-2 c κs =
     let b = c .before .before .before .before .before .before .before in
     let v = c .before .before .reply .given .0 .0 in
     let f : Fits w64 v = search needs in
     omega (arith, b .pre, decimal-room v (f .fits))
-
-same-length-4 : tie.Need-same-length-4
-same-length-4 c = search needs
 
 returns-4 : tie.Need-returns-4
 returns-4 c =
@@ -105,18 +78,18 @@ pub put-out-spec : {M : Type 1} → statement M
 put-out-spec =
     tie.close
     (tie.spec
-    put-byte-requires
-    same-length
+    (λ c κs. search needs)
+    (λ c. search needs)
     returns
     put-decimal-requires
-    same-length-2
+    (λ c. search needs)
     returns-2
-    enum-known-reply
-    enum-told
-    put-byte-requires-2
-    same-length-3
+    (λ c. search needs)
+    (λ c. search needs)
+    (λ c κs. search needs)
+    (λ c. search needs)
     returns-3
-    cast-put-decimal
+    (λ c. search needs)
     put-decimal-requires-2
-    same-length-4
+    (λ c. search needs)
     returns-4)
