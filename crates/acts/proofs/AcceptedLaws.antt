@@ -35,7 +35,7 @@ pub accepted-cut : (part n : ℕ) (d : Device) (ee id : ℕ) → refusalOf part 
 accepted-cut part n d ee id e = byte-number 255 n (lit< tt) (accepted part Cut n d ee id e .number)
 
 -- an EEPROM is whole pages
-whole-pages : (part : ℕ) → sizeOf part % 8 ≡ 0
+pub whole-pages : (part : ℕ) → sizeOf part % 8 ≡ 0
 whole-pages part = pick-case (λ (top : ℕ). (top + 1) % 8 ≡ 0) (eqb (part % 2) 1) refl refl
 
 -- a record and memories of lengths ee and id

@@ -14,7 +14,7 @@ ghost use Rattle.frames.specs.Power.{cutCount, cutWorld};
 ghost use Rattle.acts.specs.Act.{silentAnswer, answered, outcome, waitedOutcome, accepted, performed};
 ghost use Rattle.record.specs.declared.Reply.the-variants.{Off};
 
-pub mod page; // page.rt: a page stored under a mask
+pub mod page; // page.rt: a page stored under a mask, a memory erased
 
 // The answer of an act: its number in the refusal table, 0 for done; the reply on SO; a wait's ticks used or a cut's count; the record.
 pub struct Answer {

@@ -1,9 +1,9 @@
-// A page stored into a lent memory.
+// A lent memory: a page stored into it, and all of it erased.
 use record::Load;
 use record::Target;
 ghost use mathlib.Core.Path.{_≡_};
 ghost use Prim.Native.Nat.{_+_, _≤_};
-ghost use lib.ListN.{length};
+ghost use lib.ListN.{length, replicate};
 ghost use Rattle.base.specs.Words.{storeUnder};
 ghost use Rattle.record.specs.Address.{pageOf};
 ghost use Rattle.record.specs.Stages.{eepromIn, idIn};
@@ -40,5 +40,16 @@ pub fn store_target(target: Target, load: Load, mask: u8, eeprom: &mut [u8], id:
             store(&mut id[base..base + 8], set, bytes);
         }
         Target::Status(_) => {}
+    }
+}
+
+// Every byte FFh.
+pub fn erase(m: &mut [u8])
+    ensures { λ _. ⌜ now (m .exit) ≡ replicate (length (now (m .entry))) 255 ⌝ }
+{
+    let mut i: usize = 0;
+    while i < m.len() {
+        m[i] = 0xff;
+        i += 1;
     }
 }

@@ -14,9 +14,11 @@ use Rattle.frames.specs.Power.{afterCut, cutWorld}
 use Rattle.ledger.specs.State.{Ledger, noByte, noCycle}
 use Rattle.ledger.specs.Steps.{onCut}
 use Rattle.acts.specs.Shape.{Shaped}
+use Rattle.acts.proofs.PageLaws.{page-fits}
+use Rattle.acts.proofs.AcceptedLaws.{whole-pages}
 use Rattle.run.proofs.Agree.{Agree, NoByte}
 use Rattle.run.proofs.Entries.{Holds}
-use Rattle.run.proofs.Stored.{page-fits, whole-pages, cut-eeprom, cut-id, cut-bp}
+use Rattle.run.proofs.Stored.{cut-eeprom, cut-id, cut-bp}
 
 -- the pages that the cycle names lie in their memories
 pub eeprom-fits : (s : World) (part : ℕ) (w : World) (l : Ledger) → Agree s part w l → pageOf (eepromIn (w .device .cycle .target)) + 8 ≤ length (w .eeprom)

@@ -1,6 +1,6 @@
 -- What a write cycle that ends or is cut leaves in the memories and the protection is what the ledger enters for it, under any mask.
 -- Assumes nothing.
-use Prim.Native.Nat.{ℕ, _+_, _*_, _/_, _%_, _<_, _≤_}
+use Prim.Native.Nat.{ℕ, _+_, _<_, _≤_}
 use mathlib.Core.Path.{_≡_, refl, sym, ap, _∙_}
 use mathlib.Core.Bool.{Bool, true, false, _&&_, and-true}
 use mathlib.Core.List.{List}
@@ -15,7 +15,6 @@ use Rattle.record.specs.declared.Cycle.{Cycle}
 use Rattle.record.specs.declared.Protection.{Protection}
 use Rattle.record.specs.declared.Target.{Target}
 use Rattle.record.specs.declared.Target.the-variants.{Eeprom, Id, Status}
-use Rattle.record.specs.Part.{sizeOf, idSize}
 use Rattle.record.specs.Address.{pageOf}
 use Rattle.record.specs.Stages.{eepromIn, idIn}
 use Rattle.record.specs.Numbers.{protectionNumber}
@@ -25,13 +24,6 @@ use Rattle.ledger.specs.State as ledger
 use Rattle.ledger.specs.Bytes.{takes, entriesUnder, entriesOf, bpOf, entriesAfter, bpAfter}
 use Rattle.run.proofs.Agree.{LoadAgrees, TargetAgrees, CycleAgrees}
 use Rattle.run.proofs.Entries.{Holds, stored-page, other-memory}
-
--- the page of an address below a memory of whole pages lies in it
-pub page-fits : (a n : ℕ) → a < n → n % 8 ≡ 0 → pageOf a + 8 ≤ n
-page-fits a n h e = omega arith
-
-pub whole-pages : (part : ℕ) → sizeOf part % 8 ≡ 0
-whole-pages part = by-cases (eqb (part % 2) 1) (λ e. rw e) (λ e. rw e)
 
 target-eeprom :
     (n : ℕ) (before : ℕ → ℕ) (load : Load) (mask : ℕ) (t : Target) (c : ledger.Cycle) (m : List ℕ) (es : List Entry)

@@ -3,7 +3,6 @@ use record::Act;
 use record::Device;
 ghost use mathlib.Core.Path.{_≡_};
 ghost use Prim.Native.Nat.{min};
-ghost use lib.ListN.{length, replicate};
 ghost use Rattle.device.specs.World.{world};
 ghost use Rattle.run.specs.declared.Ran.{Ran};
 ghost use Rattle.run.specs.Claim.{usedBy};
@@ -28,17 +27,6 @@ fn refuses(part: u64, eeprom: usize, id: usize) -> u8
         return 4;
     }
     0
-}
-
-// A memory filled with FFh.
-fn fill(m: &mut [u8])
-    ensures { λ _. ⌜ now (m .exit) ≡ replicate (length (now (m .entry))) 255 ⌝ }
-{
-    let mut i: usize = 0;
-    while i < m.len() {
-        m[i] = 0xff;
-        i += 1;
-    }
 }
 
 // The smaller of two lengths.
@@ -127,8 +115,8 @@ pub fn run(
             device: fresh,
         };
     }
-    fill(eeprom);
-    fill(id);
+    acts::page::erase(eeprom);
+    acts::page::erase(id);
     perform_all(part, fresh, codes, numbers, answers, used, eeprom, id)
 }
 

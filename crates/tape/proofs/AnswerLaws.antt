@@ -20,8 +20,8 @@ use Rattle.device.specs.World.{World, world}
 use Rattle.device.specs.Lines.{irqLow, wdoLow}
 use Rattle.acts.specs.declared.Answer.{Answer}
 use Rattle.acts.specs.Act.{Outcome, answered}
-use Rattle.tape.specs.Text.{Buffer, buffer, append}
-use Rattle.tape.specs.Print.{Out, z, counts, outOf, answerLine}
+use Rattle.text.specs.Text.{Buffer, buffer, append}
+use Rattle.text.specs.Print.{Out, z, counts, outOf, answerLine}
 use Rattle.tape.specs.Answer.{Setup, setup, setupOf, freshSetup, Answered, answer, refusedLine, outcomeAnswer, answerText, Shown, shownIn, eepromRoom}
 
 -- a part's EEPROM is within the lent bytes

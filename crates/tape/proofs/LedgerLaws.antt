@@ -20,10 +20,10 @@ use Rattle.ledger.specs.Steps.{ledgerRun}
 use Rattle.run.specs.Claim.{Input, ourChip, worldAfter, fed, freshWorld, named, usedBy, Accounted, DemandThree}
 use Rattle.run.specs.Claim.{stepOf as runStep}
 use Rattle.run.proofs.DemandThree.{demand-three}
-use Rattle.tape.specs.declared.Request.{Request}
-use Rattle.tape.specs.declared.Request.the-variants.{PartLine, ActLine, Bad}
-use Rattle.tape.specs.Request.{requestOf}
-use Rattle.tape.specs.Print.{Out, shown, z, outOf, counts, replyOut}
+use Rattle.text.specs.declared.Request.{Request}
+use Rattle.text.specs.declared.Request.the-variants.{PartLine, ActLine, Bad}
+use Rattle.text.specs.Request.{requestOf}
+use Rattle.text.specs.Print.{Out, shown, z, outOf, counts, replyOut}
 use Rattle.tape.specs.Answer.{Setup, setup, noPart, Answered, answer, refusedLine, outcomeAnswer, freshSetup, requestAnswer, lineAnswer}
 use Rattle.tape.specs.Tape.{linesFrom}
 use Rattle.tape.specs.Steps.{setupAfter, ticksOf, ticksPrinted, stepOf, stepsFrom, TapeAccounted, leftAfter, BytesAccounted}

@@ -16,15 +16,15 @@ use lib.Seq.{take-all, take-suc, take-suc-set, drop-cons, getD-drop, length-sets
 use Rattle.base.specs.Words.{pick}
 use Rattle.base.proofs.Tests.{by-cases, yes, no, either, both-left, both-right, neither-left, neither-right}
 use Rattle.record.specs.Part.{idSize}
-use Rattle.tape.specs.declared.Request.{Request}
-use Rattle.tape.specs.declared.Request.the-variants.{Bad}
-use Rattle.tape.specs.Text.{leading, Buffer, buffer, append}
-use Rattle.tape.specs.Line.{lineLimit, tooLong}
-use Rattle.tape.specs.Request.{requestOf}
-use Rattle.tape.specs.Print.{newline, answerRoom}
+use Rattle.text.specs.declared.Request.{Request}
+use Rattle.text.specs.declared.Request.the-variants.{Bad}
+use Rattle.text.specs.Text.{leading, Buffer, buffer, append}
+use Rattle.text.specs.Line.{lineLimit, tooLong}
+use Rattle.text.specs.Request.{requestOf}
+use Rattle.text.specs.Print.{newline, answerRoom}
+use Rattle.text.proofs.TextLaws.{leading-taken, leading-ends, leading-within, append-none, append-join}
 use Rattle.tape.specs.Answer.{Setup, setup, Answered, requestAnswer, lineAnswer, answerText, Shown, shownIn, eepromRoom}
 use Rattle.tape.specs.Tape.{linesFrom, answersTo, tapeAnswers, emptySetup, State, state, kept, keptLimit, Fed, fedTo, ended, fedByte, after, fed, finished, plain, takenWithin, Taken, putInto, roomIn, feedInto, buffersFit}
-use Rattle.tape.proofs.TextLaws.{leading-taken, leading-ends, leading-within, append-none, append-join}
 
 -- two chunks answer as their join does
 after-join : (a b : List ℕ) (f : Fed) → after a (after b f) ≡ after (a ++ b) f

@@ -14,10 +14,10 @@ use Rattle.base.specs.Words.{pick}
 use Rattle.base.proofs.Tests.{by-cases, yes, no, pick-case}
 use Rattle.record.specs.Part.{isPart}
 use Rattle.device.specs.World.{World}
-use Rattle.tape.specs.declared.Request.{Request}
-use Rattle.tape.specs.declared.Request.the-variants.{PartLine, ActLine, Bad}
-use Rattle.tape.specs.Request.{requestOf}
-use Rattle.tape.specs.Print.{newline, answerRoom, z}
+use Rattle.text.specs.declared.Request.{Request}
+use Rattle.text.specs.declared.Request.the-variants.{PartLine, ActLine, Bad}
+use Rattle.text.specs.Request.{requestOf}
+use Rattle.text.specs.Print.{newline, answerRoom, z}
 use Rattle.tape.specs.Answer.{Setup, setup, Answered, answer, refusedLine, freshSetup, requestAnswer, lineAnswer, answerText}
 use Rattle.tape.specs.Tape.{lastLine, linesFrom, answersTo, tapeAnswers, emptySetup, State, state, kept, keptLimit, Fed, fedTo, ended, fedByte, after, fed, finished, answersFrom, takenWithin}
 use Rattle.tape.specs.Steps.{setupAfter}

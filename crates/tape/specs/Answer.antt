@@ -14,12 +14,12 @@ use Rattle.device.specs.World.{World, world}
 use Rattle.device.specs.Lines.{irqLow, wdoLow}
 use Rattle.acts.specs.Act.{Outcome, performed}
 use Rattle.run.specs.Claim.{freshWorld}
+use Rattle.text.specs.declared.Request.{Request}
+use Rattle.text.specs.declared.Request.the-variants.{PartLine, ActLine, Bad}
+use Rattle.text.specs.Text.{Buffer, buffer, append}
+use Rattle.text.specs.Request.{requestOf}
+use Rattle.text.specs.Print.{Out, shown, z, counts, outOf, answerLine}
 use Rattle.tape.specs.declared.Progress.{Progress}
-use Rattle.tape.specs.declared.Request.{Request}
-use Rattle.tape.specs.declared.Request.the-variants.{PartLine, ActLine, Bad}
-use Rattle.tape.specs.Text.{Buffer, buffer, append}
-use Rattle.tape.specs.Request.{requestOf}
-use Rattle.tape.specs.Print.{Out, shown, z, counts, outOf, answerLine}
 
 -- the part that was accepted, 0 while there is none, and its chip with the memories
 pub record Setup : Type 0 where

@@ -12,10 +12,10 @@ use Rattle.device.specs.World.{World}
 use Rattle.ledger.specs.State.{Step, start}
 use Rattle.ledger.specs.Steps.{ledgerRun}
 use Rattle.run.specs.Claim.{named, Accounted}
-use Rattle.tape.specs.declared.Request.{Request}
-use Rattle.tape.specs.declared.Request.the-variants.{PartLine, ActLine, Bad}
-use Rattle.tape.specs.Request.{requestOf}
-use Rattle.tape.specs.Print.{Out, shown, z}
+use Rattle.text.specs.declared.Request.{Request}
+use Rattle.text.specs.declared.Request.the-variants.{PartLine, ActLine, Bad}
+use Rattle.text.specs.Request.{requestOf}
+use Rattle.text.specs.Print.{Out, shown, z}
 use Rattle.tape.specs.Answer.{Setup, setup, noPart, lineAnswer}
 use Rattle.tape.specs.Tape.{State, state, fed, finished, linesFrom}
 

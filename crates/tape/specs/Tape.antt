@@ -10,11 +10,11 @@ use Rattle.base.specs.Words.{pick}
 use Rattle.record.specs.Part.{idSize}
 use Rattle.record.specs.Fresh.{fresh}
 use Rattle.device.specs.World.{world}
+use Rattle.text.specs.Text.{Buffer, buffer, append}
+use Rattle.text.specs.Line.{lineLimit}
+use Rattle.text.specs.Print.{newline, answerRoom}
 use Rattle.tape.specs.declared.Tape.{Tape}
 use Rattle.tape.specs.declared.Feed.{Feed}
-use Rattle.tape.specs.Text.{Buffer, buffer, append}
-use Rattle.tape.specs.Line.{lineLimit}
-use Rattle.tape.specs.Print.{newline, answerRoom}
 use Rattle.tape.specs.Answer.{Setup, setup, Answered, lineAnswer, answerText, eepromRoom, setupOf}
 
 -- "a last line without one is a line too", where it has begun

@@ -1,21 +1,19 @@
 // What a line answers. The EEPROM is lent as the 256 bytes of the largest part; a 1 Kbit part has the first 128.
 use crate::Progress;
-use crate::Request;
-use crate::line;
-use crate::print;
 use record::Act;
 use record::Device;
 use record::Reply;
+use text::Request;
 ghost use mathlib.Core.Path.{_≡_};
 ghost use mathlib.Core.Bool.{not, _||_};
 ghost use mathlib.Core.List.{List};
 ghost use Prim.Native.Nat.{ℕ, _+_, _≤_};
 ghost use lib.Dec.{eqb};
-ghost use lib.ListN.{length, replicate};
+ghost use lib.ListN.{length};
 ghost use Rattle.record.specs.Part.{idSize};
 ghost use Rattle.device.specs.Lines.{irqLow, wdoLow};
-ghost use Rattle.tape.specs.Text.{buffer, append};
-ghost use Rattle.tape.specs.Print.{outOf, answerLine, answerRoom};
+ghost use Rattle.text.specs.Text.{buffer, append};
+ghost use Rattle.text.specs.Print.{outOf, answerLine, answerRoom};
 ghost use Rattle.tape.specs.Answer.{partAnswer, actAnswer, refusedLine, requestAnswer, lineAnswer, shownIn, shownBy, setupOf, eepromRoom};
 
 // A level is high without a part, and where the chip does not hold it low.
@@ -41,7 +39,7 @@ fn put_line(
 {
     let irq = high(part, device::lines::irq_low(d));
     let wdo = high(part, device::lines::wdo_low(d));
-    print::put_answer(number, counted, reply, count, irq, wdo, out, at)
+    text::print::put_answer(number, counted, reply, count, irq, wdo, out, at)
 }
 
 // A line that the tape itself refuses, whatever the memories hold.
@@ -59,17 +57,6 @@ fn refused_line(number: u8, p: Progress, out: &mut [u8]) -> Progress
     }
 }
 
-// Every byte FFh.
-fn erase(m: &mut [u8])
-    ensures { λ r. ⌜ now (m .exit) ≡ replicate (length (now (m .entry))) 255 ⌝ }
-{
-    let mut i: usize = 0;
-    while i < m.len() {
-        m[i] = 0xff;
-        i += 1;
-    }
-}
-
 // A line `op=part`: the first of a part that there is makes a fresh chip.
 fn part_line(n: u64, p: Progress, eeprom: &mut [u8], id: &mut [u8], out: &mut [u8]) -> Progress
     requires { ⌜ (length (now eeprom) ≡ eepromRoom) × (length (now id) ≡ idSize) × (p .at + answerRoom ≤ length (now out)) ⌝ }
@@ -83,8 +70,8 @@ fn part_line(n: u64, p: Progress, eeprom: &mut [u8], id: &mut [u8], out: &mut [u
     if !is_part {
         return refused_line(3, p, out);
     }
-    erase(eeprom);
-    erase(id);
+    acts::page::erase(eeprom);
+    acts::page::erase(id);
     let fresh = record::fresh_device();
     let at = p.at;
     let place = put_line(0, false, Reply::Off, 0, n, fresh, out, at);
@@ -114,7 +101,7 @@ fn act_line(
     let size = record::part::top(p.part) as usize + 1;
     let d = p.device;
     let a = acts::perform(p.part, act, n, d, &mut eeprom[..size], id);
-    let counted = print::counts_of(act);
+    let counted = text::print::counts_of(act);
     let reply = a.reply;
     let next = a.device;
     let at = p.at;
@@ -128,16 +115,16 @@ fn act_line(
 
 // A line's answer.
 pub fn answer_line(
-    text: &[u8],
+    line: &[u8],
     p: Progress,
     eeprom: &mut [u8],
     id: &mut [u8],
     out: &mut [u8],
 ) -> Progress
     requires { ⌜ (length (now eeprom) ≡ eepromRoom) × (length (now id) ≡ idSize) × (p .at + answerRoom ≤ length (now out)) ⌝ }
-    ensures { λ r. ⌜ shownBy r (now (eeprom .exit)) (now (id .exit)) (now (out .exit)) ≡ shownIn (buffer (now (out .entry)) (p .at)) (lineAnswer (now (text .entry)) (setupOf (p .part) (p .device) (now (eeprom .entry)) (now (id .entry)))) ⌝ }
+    ensures { λ r. ⌜ shownBy r (now (eeprom .exit)) (now (id .exit)) (now (out .exit)) ≡ shownIn (buffer (now (out .entry)) (p .at)) (lineAnswer (now (line .entry)) (setupOf (p .part) (p .device) (now (eeprom .entry)) (now (id .entry)))) ⌝ }
 {
-    let r = line::request(text);
+    let r = text::line::request(line);
     match r {
         Request::PartLine(n) => part_line(n, p, eeprom, id, out),
         Request::ActLine(act, n) => act_line(act, n, p, eeprom, id, out),

@@ -4,8 +4,6 @@ use crate::Feed;
 use crate::Progress;
 use crate::Tape;
 use crate::answer;
-use crate::line;
-use crate::print;
 ghost use mathlib.Core.Path.{_≡_};
 ghost use mathlib.Core.Bool.{true};
 ghost use mathlib.Core.List.{_++_};
@@ -13,13 +11,13 @@ ghost use Prim.Native.Nat.{_+_, _-_, _≤_};
 ghost use lib.ListN.{length, take, drop};
 ghost use Rattle.record.specs.Part.{idSize};
 ghost use Rattle.record.specs.Fresh.{fresh};
-ghost use Rattle.tape.specs.Text.{leading, buffer};
-ghost use Rattle.tape.specs.Print.{answerRoom};
+ghost use Rattle.text.specs.Text.{leading, buffer};
+ghost use Rattle.text.specs.Print.{answerRoom};
 ghost use Rattle.tape.specs.Answer.{lineAnswer, shownIn, shownBy, setupOf, eepromRoom};
 ghost use Rattle.tape.specs.Tape.{plain, kept, keptLimit, finished, feedInto, finishInto, putInto, buffersFit, stateOf, takenBy};
 
 // How much of a line is kept: one character more than a line may have tells that it is too long.
-pub const KEPT_LIMIT: usize = line::LINE_LIMIT + 1;
+pub const KEPT_LIMIT: usize = text::line::LINE_LIMIT + 1;
 
 // The bytes of the largest EEPROM, and those of the ID.
 pub const EEPROM_ROOM: usize = 256;
@@ -125,7 +123,7 @@ fn feed_lines(
     let mut from: usize = 0;
     while from < chunk.len() {
         let end = line_end(chunk, from);
-        let stops = (end == chunk.len()) | (room(out.len(), p.at) < print::ANSWER_ROOM);
+        let stops = (end == chunk.len()) | (room(out.len(), p.at) < text::print::ANSWER_ROOM);
         if stops {
             let more = keep(&chunk[from..end], line, begun);
             let device = p.device;
@@ -232,7 +230,7 @@ pub fn finish(
     if !fits {
         return Feed { tape, taken: 0, at };
     }
-    let has_room = print::ANSWER_ROOM <= room(out.len(), at);
+    let has_room = text::print::ANSWER_ROOM <= room(out.len(), at);
     if has_room {
         return finish_line(tape, line, eeprom, id, out, at);
     }

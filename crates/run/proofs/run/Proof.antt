@@ -17,7 +17,7 @@ returns-2 c =
     let e = i .before .before .before .before in
     let n = e .before .before in
     run-done _ _ _ _ _ _ _ _ _ _ _ _ _ _ _ (sym (n .before .refuses .ensures) ∙ n .if1 .left) (n .before .before .fresh-device .ensures)
-    (e .fill .ensures) (i .fill2 .ensures) (p .perform-all .ensures .0) (p .perform-all .ensures .1)
+    (e .erase .ensures) (i .erase2 .ensures) (p .perform-all .ensures .0) (p .perform-all .ensures .1)
 
 pub run-spec : {M : Type 1} → statement M
 run-spec =

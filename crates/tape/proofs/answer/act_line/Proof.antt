@@ -11,59 +11,23 @@ use Rattle.record.specs.Part.{sizeOf}
 use Rattle.device.specs.World.{world}
 use Rattle.acts.specs.Act.{Outcome, performed}
 use Rattle.base.proofs.Tests.{yes, no}
-use Rattle.tape.specs.Text.{buffer}
+use Rattle.text.specs.Text.{buffer}
 use Rattle.tape.specs.Answer.{outcomeAnswer, shownIn}
 use Rattle.tape.proofs.AnswerLaws.{size-within, outcome-shown}
 use borrow.Author.Needs.{needs}
 use Rattle.tape.proofs.answer.act_line.Statement.{statement}
 use Rattle.tape.proofs.answer.act_line.Tie as tie
 
-refused-line-requires : tie.Need-refused-line-requires
-refused-line-requires c κs = search needs
-
-same-length : tie.Need-same-length
-same-length c = search needs
-
 returns : tie.Need-returns
 returns c =
     let a = c .before .before .before .before .before .before .before .before .before .args in
     c .before .before .refused-line .ensures (a .eeprom .now) (a .id .now) ∙ ap (shownIn (buffer (a .out .now) (a .p .at))) (yes _ _ (c .before .before .before .before .if1 .taken))
-
-top-requires : tie.Need-top-requires
-top-requires c κs = search needs
-
-cast-size : tie.Need-cast-size
-cast-size c = search needs
-
-add-size : tie.Need-add-size
-add-size c = search needs
-
-slice-relend-prefix-perform : tie.Need-slice-relend-prefix-perform
-slice-relend-prefix-perform c = search needs
 
 slice-aggregate-perform : tie.Need-slice-aggregate-perform
 slice-aggregate-perform c =
     let b = c .before .before .before .before .before .before .before .before in
     let l = size-within (b .args .p .part) in
     sym (length-take-le (c .before .before .top .result + 1) (b .args .eeprom .now) (omega (arith, b .pre .0, l, c .before .before .top .ensures)))
-
-perform-requires : tie.Need-perform-requires
-perform-requires c κs = search needs
-
-counts-of-requires : tie.Need-counts-of-requires
-counts-of-requires c κs = search needs
-
-put-line-requires : tie.Need-put-line-requires
-put-line-requires c κs = search needs
-
-same-length-2 : tie.Need-same-length-2
-same-length-2 c = search needs
-
-same-length-3 : tie.Need-same-length-3
-same-length-3 c = search needs
-
-same-length-4 : tie.Need-same-length-4
-same-length-4 c = search needs
 
 returns-2 : tie.Need-returns-2
 returns-2 c =
@@ -88,18 +52,18 @@ pub act-line-spec : {M : Type 1} → statement M
 act-line-spec =
     tie.close
     (tie.spec
-    refused-line-requires
-    same-length
+    (λ c κs. search needs)
+    (λ c. search needs)
     returns
-    top-requires
-    cast-size
-    add-size
-    slice-relend-prefix-perform
+    (λ c κs. search needs)
+    (λ c. search needs)
+    (λ c. search needs)
+    (λ c. search needs)
     slice-aggregate-perform
-    perform-requires
-    counts-of-requires
-    put-line-requires
-    same-length-2
-    same-length-3
-    same-length-4
+    (λ c κs. search needs)
+    (λ c κs. search needs)
+    (λ c κs. search needs)
+    (λ c. search needs)
+    (λ c. search needs)
+    (λ c. search needs)
     returns-2)

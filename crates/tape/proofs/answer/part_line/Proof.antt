@@ -9,33 +9,18 @@ use lib.ListN.{replicate}
 use borrow.Author.Tests.{not-true, not-false}
 use Rattle.base.proofs.Tests.{yes, no}
 use Rattle.record.specs.Part.{isPart}
-use Rattle.tape.specs.Text.{buffer}
+use Rattle.text.specs.Text.{buffer}
 use Rattle.tape.specs.Answer.{shownIn}
 use Rattle.tape.proofs.AnswerLaws.{fresh-shown}
 use borrow.Author.Needs.{needs}
 use Rattle.tape.proofs.answer.part_line.Statement.{statement}
 use Rattle.tape.proofs.answer.part_line.Tie as tie
 
-refused-line-requires : tie.Need-refused-line-requires
-refused-line-requires c κs = search needs
-
-same-length : tie.Need-same-length
-same-length c = search needs
-
 returns : tie.Need-returns
 returns c =
     let a = c .before .before .before .before .before .before .before .before .before .args in
     c .before .before .refused-line .ensures (a .eeprom .now) (a .id .now)
     ∙ ap (shownIn (buffer (a .out .now) (a .p .at))) (no _ _ (not-true (eqb (a .p .part) 0) (c .before .before .before .before .if1 .taken)))
-
-is-part-requires : tie.Need-is-part-requires
-is-part-requires c κs = search needs
-
-refused-line-requires-2 : tie.Need-refused-line-requires-2
-refused-line-requires-2 c κs = search needs
-
-same-length-2 : tie.Need-same-length-2
-same-length-2 c = search needs
 
 returns-2 : tie.Need-returns-2
 returns-2 c =
@@ -44,26 +29,8 @@ returns-2 c =
     c .before .before .refused-line2 .ensures (a .eeprom .now) (a .id .now)
     ∙ ap (shownIn (buffer (a .out .now) (a .p .at))) (no _ _ n ∙ yes _ _ (not-false (eqb (a .p .part) 0) (c .before .before .before .before .before .before .if1 .left)))
 
-erase-requires : tie.Need-erase-requires
-erase-requires c κs = search needs
-
-erase-requires-2 : tie.Need-erase-requires-2
-erase-requires-2 c κs = search needs
-
-fresh-device-requires : tie.Need-fresh-device-requires
-fresh-device-requires c κs = search needs
-
 put-line-requires : tie.Need-put-line-requires
 put-line-requires c κs = omega (arith, c .before .before .before .before .before .before .before .before .before .before .before .before .before .before .before .before .before .pre .2)
-
-same-length-3 : tie.Need-same-length-3
-same-length-3 c = search needs
-
-same-length-4 : tie.Need-same-length-4
-same-length-4 c = search needs
-
-same-length-5 : tie.Need-same-length-5
-same-length-5 c = search needs
 
 returns-3 : tie.Need-returns-3
 returns-3 c =
@@ -82,18 +49,18 @@ pub part-line-spec : {M : Type 1} → statement M
 part-line-spec =
     tie.close
     (tie.spec
-    refused-line-requires
-    same-length
+    (λ c κs. search needs)
+    (λ c. search needs)
     returns
-    is-part-requires
-    refused-line-requires-2
-    same-length-2
+    (λ c κs. search needs)
+    (λ c κs. search needs)
+    (λ c. search needs)
     returns-2
-    erase-requires
-    erase-requires-2
-    fresh-device-requires
+    (λ c κs. search needs)
+    (λ c κs. search needs)
+    (λ c κs. search needs)
     put-line-requires
-    same-length-3
-    same-length-4
-    same-length-5
+    (λ c. search needs)
+    (λ c. search needs)
+    (λ c. search needs)
     returns-3)

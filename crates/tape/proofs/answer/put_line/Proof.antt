@@ -4,29 +4,11 @@ use mathlib.Core.Path.{_≡_, ap, _∙_}
 use mathlib.Core.Bool.{Bool, not, _||_}
 use lib.Dec.{eqb}
 use Rattle.device.specs.Lines.{irqLow, wdoLow}
-use Rattle.tape.specs.Text.{buffer, append}
-use Rattle.tape.specs.Print.{outOf, answerLine}
+use Rattle.text.specs.Text.{buffer, append}
+use Rattle.text.specs.Print.{outOf, answerLine}
 use borrow.Author.Needs.{needs}
 use Rattle.tape.proofs.answer.put_line.Statement.{statement}
 use Rattle.tape.proofs.answer.put_line.Tie as tie
-
-irq-low-requires : tie.Need-irq-low-requires
-irq-low-requires c κs = search needs
-
-high-requires : tie.Need-high-requires
-high-requires c κs = search needs
-
-wdo-low-requires : tie.Need-wdo-low-requires
-wdo-low-requires c κs = search needs
-
-high-requires-2 : tie.Need-high-requires-2
-high-requires-2 c κs = search needs
-
-put-answer-requires : tie.Need-put-answer-requires
-put-answer-requires c κs = search needs
-
-same-length : tie.Need-same-length
-same-length c = search needs
 
 returns : tie.Need-returns
 returns c =
@@ -42,10 +24,10 @@ pub put-line-spec : {M : Type 1} → statement M
 put-line-spec =
     tie.close
     (tie.spec
-    irq-low-requires
-    high-requires
-    wdo-low-requires
-    high-requires-2
-    put-answer-requires
-    same-length
+    (λ c κs. search needs)
+    (λ c κs. search needs)
+    (λ c κs. search needs)
+    (λ c κs. search needs)
+    (λ c κs. search needs)
+    (λ c. search needs)
     returns)

@@ -1,16 +1,10 @@
 -- `tape::answer::refused_line` meets its contract.
 -- Assumes nothing.
-use Rattle.tape.specs.Text.{buffer}
+use Rattle.text.specs.Text.{buffer}
 use Rattle.tape.proofs.AnswerLaws.{refused-shown}
 use borrow.Author.Needs.{needs}
 use Rattle.tape.proofs.answer.refused_line.Statement.{statement}
 use Rattle.tape.proofs.answer.refused_line.Tie as tie
-
-put-line-requires : tie.Need-put-line-requires
-put-line-requires c κs = search needs
-
-same-length : tie.Need-same-length
-same-length c = search needs
 
 returns : tie.Need-returns
 returns c =
@@ -20,4 +14,9 @@ returns c =
     refused-shown (a .number) (a .p .part) (a .p .device) ee id (buffer (a .out .now) (a .p .at)) (buffer (p .last .1 .1 .1 .1 .1 .1 .0) (p .result)) (p .ensures)
 
 pub refused-line-spec : {M : Type 1} → statement M
-refused-line-spec = tie.close (tie.spec put-line-requires same-length returns)
+refused-line-spec =
+    tie.close
+    (tie.spec
+    (λ c κs. search needs)
+    (λ c. search needs)
+    returns)

@@ -4,33 +4,18 @@ use mathlib.Core.Path.{sym, ap, _∙_}
 use mathlib.Core.Bool.{Bool}
 use lib.ListN.{length}
 use Rattle.base.proofs.Tests.{no}
-use Rattle.tape.specs.Text.{buffer}
+use Rattle.text.specs.Text.{buffer}
 use Rattle.tape.specs.Tape.{feedInto, stateOf}
 use Rattle.tape.proofs.TapeLaws.{fit-facts}
 use borrow.Author.Needs.{needs}
 use Rattle.tape.proofs.chunk.feed.Statement.{statement}
 use Rattle.tape.proofs.chunk.feed.Tie as tie
 
-fit-requires : tie.Need-fit-requires
-fit-requires c κs = search needs
-
 feed-lines-requires : tie.Need-feed-lines-requires
 feed-lines-requires c κs =
     let a = c .before .before .before .before .before .before .before .before .before .before .before .args in
     let f = sym (c .before .before .before .before .before .fit .ensures) ∙ c .before .before .before .before .if1 .taken in
     fit-facts (a .tape .begun) (length (a .line .now)) (length (a .eeprom .now)) (length (a .id .now)) f
-
-same-length : tie.Need-same-length
-same-length c = search needs
-
-same-length-2 : tie.Need-same-length-2
-same-length-2 c = search needs
-
-same-length-3 : tie.Need-same-length-3
-same-length-3 c = search needs
-
-same-length-4 : tie.Need-same-length-4
-same-length-4 c = search needs
 
 returns : tie.Need-returns
 returns c =
@@ -47,11 +32,11 @@ pub feed-spec : {M : Type 1} → statement M
 feed-spec =
     tie.close
     (tie.spec
-    fit-requires
+    (λ c κs. search needs)
     feed-lines-requires
-    same-length
-    same-length-2
-    same-length-3
-    same-length-4
+    (λ c. search needs)
+    (λ c. search needs)
+    (λ c. search needs)
+    (λ c. search needs)
     returns
     returns-2)

@@ -9,10 +9,10 @@ use mathlib.Core.Logic.{inl, inr, ⊎-elim}
 use lib.Dec.{ltb, eqb}
 use borrow.Author.Tests.{eqb-true, eqb-false, ltb-true, ltb-false}
 use Rattle.base.proofs.Tests.{either, neither-left, neither-right}
-use Rattle.tape.specs.Print.{answerRoom}
+use Rattle.text.specs.Print.{answerRoom}
 use Prim.Native.Nat.{ℕ, _+_, _-_, _<_, _≤_}
 use lib.ListN.{length, take, drop, length-take}
-use Rattle.tape.specs.Text.{buffer}
+use Rattle.text.specs.Text.{buffer}
 use Rattle.tape.specs.Answer.{Shown, setupOf, shownIn, lineAnswer}
 use Rattle.tape.specs.Tape.{keptLimit, kept, state, stateOf}
 use Rattle.tape.proofs.TapeLaws.{Sofar, sofar-start, sofar-done, end-within, turn-stop, turn-line, stops, goes}
@@ -32,12 +32,6 @@ loop-holds : tie.Need-loop-holds Inv-loop μ-loop
 loop-holds c =
     let b = c .before .before .before .before .before .before in
     (refl, refl, refl, refl, b .pre .0, sofar-start _ _ _)
-
-line-end-requires : tie.Need-line-end-requires Inv-loop μ-loop
-line-end-requires c κs = omega arith
-
-room-requires : tie.Need-room-requires Inv-loop μ-loop
-room-requires c κs = search needs
 
 sub-keep : tie.Need-sub-keep Inv-loop μ-loop
 sub-keep c =
@@ -171,18 +165,6 @@ loop-again c =
           (g .0) (g .1) x (f .ensures),
     )
 
-same-length-5 : tie.Need-same-length-5 Inv-loop μ-loop
-same-length-5 c = c .before .before .loop .inv .0
-
-same-length-6 : tie.Need-same-length-6 Inv-loop μ-loop
-same-length-6 c = c .before .before .loop .inv .1
-
-same-length-7 : tie.Need-same-length-7 Inv-loop μ-loop
-same-length-7 c = c .before .before .loop .inv .2
-
-same-length-8 : tie.Need-same-length-8 Inv-loop μ-loop
-same-length-8 c = c .before .before .loop .inv .3
-
 returns-2 : tie.Need-returns-2 Inv-loop μ-loop
 returns-2 c =
     let l = c .before .before .loop in
@@ -197,8 +179,8 @@ feed-lines-spec =
     Inv-loop
     μ-loop
     loop-holds
-    line-end-requires
-    room-requires
+    (λ c κs. omega arith)
+    (λ c κs. search needs)
     sub-keep
     part-keep-start
     part-keep-end
@@ -215,8 +197,8 @@ feed-lines-spec =
     add-from
     loop-less
     loop-again
-    same-length-5
-    same-length-6
-    same-length-7
-    same-length-8
+    (λ c. c .before .before .loop .inv .0)
+    (λ c. c .before .before .loop .inv .1)
+    (λ c. c .before .before .loop .inv .2)
+    (λ c. c .before .before .loop .inv .3)
     returns-2)

@@ -8,15 +8,12 @@ use lib.Dec.{leb}
 use lib.ListN.{length}
 use borrow.Author.Tests.{leb-true, not-true, not-false}
 use Rattle.base.proofs.Tests.{yes, no, both-true}
-use Rattle.tape.specs.Print.{answerRoom}
+use Rattle.text.specs.Print.{answerRoom}
 use Rattle.tape.specs.Tape.{finishInto}
 use Rattle.tape.proofs.TapeLaws.{fit-facts}
 use borrow.Author.Needs.{needs}
 use Rattle.tape.proofs.chunk.finish.Statement.{statement}
 use Rattle.tape.proofs.chunk.finish.Tie as tie
-
-fit-requires : tie.Need-fit-requires
-fit-requires c κs = search needs
 
 returns : tie.Need-returns
 unfolding finishInto
@@ -25,9 +22,6 @@ returns c =
     let f = sym (c .before .fit .ensures) ∙ not-true (c .before .fit .result) (c .if1 .taken) in
     no _ _ (ap (λ (x : Bool). x && leb answerRoom (length (a .out .now) - a .at)) f)
 
-room-requires : tie.Need-room-requires
-room-requires c κs = search needs
-
 finish-line-requires : tie.Need-finish-line-requires
 finish-line-requires c κs =
     let a = c .before .before .before .before .before .before .before .before .before .before .before .before .args in
@@ -35,18 +29,6 @@ finish-line-requires c κs =
     let g = fit-facts (a .tape .begun) (length (a .line .now)) (length (a .eeprom .now)) (length (a .id .now)) f in
     let r = leb-true answerRoom (c .before .before .before .before .before .room .result) (c .before .before .before .before .if2 .taken) in
     (g .0, g .1, g .2, g .3, omega (arith, r, c .before .before .before .before .before .room .ensures))
-
-same-length : tie.Need-same-length
-same-length c = search needs
-
-same-length-2 : tie.Need-same-length-2
-same-length-2 c = search needs
-
-same-length-3 : tie.Need-same-length-3
-same-length-3 c = search needs
-
-same-length-4 : tie.Need-same-length-4
-same-length-4 c = search needs
 
 returns-2 : tie.Need-returns-2
 unfolding finishInto
@@ -66,13 +48,13 @@ pub finish-spec : {M : Type 1} → statement M
 finish-spec =
     tie.close
     (tie.spec
-    fit-requires
+    (λ c κs. search needs)
     returns
-    room-requires
+    (λ c κs. search needs)
     finish-line-requires
-    same-length
-    same-length-2
-    same-length-3
-    same-length-4
+    (λ c. search needs)
+    (λ c. search needs)
+    (λ c. search needs)
+    (λ c. search needs)
     returns-2
     returns-3)

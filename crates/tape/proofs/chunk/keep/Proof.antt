@@ -20,9 +20,6 @@ abbrev μ-loop : tie.MeasureT-loop
 loop-holds : tie.Need-loop-holds Inv-loop μ-loop
 loop-holds c = (omega arith, omega arith, refl, keep-none (c .args .line .now) (c .args .begun) (c .args .piece .now) (c .pre .1))
 
-same-length : tie.Need-same-length Inv-loop μ-loop
-same-length c = c .before .before .loop .inv .2
-
 returns : tie.Need-returns Inv-loop μ-loop
 returns c =
     let l = c .before .before .loop in
@@ -30,21 +27,6 @@ returns c =
     let a = b .args in
     let w : length (l .line) ≡ keptLimit = l .inv .2 ∙ b .pre .0 in
     (keep-full (l .line) (take (a .begun) (a .line .now)) (a .piece .now) (l .n) (l .i) w (c .if1 .taken) (l .inv .3), l .inv .1)
-
-shared-slice-read-line : tie.Need-shared-slice-read-line Inv-loop μ-loop
-shared-slice-read-line c = omega arith
-
-slice-write-line : tie.Need-slice-write-line Inv-loop μ-loop
-slice-write-line c = omega arith
-
-add-n : tie.Need-add-n Inv-loop μ-loop
-add-n c = omega arith
-
-add-i : tie.Need-add-i Inv-loop μ-loop
-add-i c = omega arith
-
-loop-less : tie.Need-loop-less Inv-loop μ-loop
-loop-less c = omega arith
 
 loop-again : tie.Need-loop-again Inv-loop μ-loop
 loop-again c =
@@ -57,9 +39,6 @@ loop-again c =
       simp length-set (l .inv .2),
       keep-more (l .line) (take (a .begun) (a .line .now)) (a .piece .now) (l .n) (l .i) w (c .before .if1 .left) (c .before .before .loop-test .taken) (l .inv .3),
     )
-
-same-length-2 : tie.Need-same-length-2 Inv-loop μ-loop
-same-length-2 c = c .before .loop .inv .2
 
 returns-2 : tie.Need-returns-2 Inv-loop μ-loop
 returns-2 c =
@@ -74,13 +53,13 @@ keep-spec =
     Inv-loop
     μ-loop
     loop-holds
-    same-length
+    (λ c. c .before .before .loop .inv .2)
     returns
-    shared-slice-read-line
-    slice-write-line
-    add-n
-    add-i
-    loop-less
+    (λ c. omega arith)
+    (λ c. omega arith)
+    (λ c. omega arith)
+    (λ c. omega arith)
+    (λ c. omega arith)
     loop-again
-    same-length-2
+    (λ c. c .before .loop .inv .2)
     returns-2)

@@ -5,9 +5,9 @@ use mathlib.Core.Path.{_≡_, refl, sym, ap, _∙_}
 use mathlib.Core.Bool.{not}
 use Prim.Native.Nat.{_+_, _≤_, _-_}
 use lib.ListN.{length, drop}
-use Rattle.tape.specs.Text.{leading}
+use Rattle.text.specs.Text.{leading}
+use Rattle.text.proofs.TextLaws.{leading-more, leading-stops, leading-whole}
 use Rattle.tape.specs.Tape.{plain}
-use Rattle.tape.proofs.TextLaws.{leading-more, leading-stops, leading-whole}
 use Rattle.tape.proofs.chunk.line_end.Statement.{statement}
 use Rattle.tape.proofs.chunk.line_end.Tie as tie
 
@@ -20,19 +20,10 @@ abbrev μ-loop : tie.MeasureT-loop
 loop-holds : tie.Need-loop-holds Inv-loop μ-loop
 loop-holds c = (omega arith, refl)
 
-shared-slice-read-ends : tie.Need-shared-slice-read-ends Inv-loop μ-loop
-shared-slice-read-ends c = omega arith
-
 returns : tie.Need-returns Inv-loop μ-loop
 returns c =
     let b = c .before .before in
     sym (leading-stops plain _ _ (b .loop-test .taken) (ap not (c .if1 .taken))) ∙ b .before .loop .inv .1
-
-add-i : tie.Need-add-i Inv-loop μ-loop
-add-i c = omega arith
-
-loop-less : tie.Need-loop-less Inv-loop μ-loop
-loop-less c = omega arith
 
 loop-again : tie.Need-loop-again Inv-loop μ-loop
 loop-again c =
@@ -46,4 +37,15 @@ returns-2 c =
     sym (leading-whole plain s _ e) ∙ c .before .loop .inv .1
 
 pub line-end-spec : {M : Type 1} → statement M
-line-end-spec = tie.close (tie.spec Inv-loop μ-loop loop-holds shared-slice-read-ends returns add-i loop-less loop-again returns-2)
+line-end-spec =
+    tie.close
+    (tie.spec
+    Inv-loop
+    μ-loop
+    loop-holds
+    (λ c. omega arith)
+    returns
+    (λ c. omega arith)
+    (λ c. omega arith)
+    loop-again
+    returns-2)

@@ -6,11 +6,12 @@ use borrow.Author.Needs.{needs}
 use Rattle.tape.proofs.chunk.start.Statement.{statement}
 use Rattle.tape.proofs.chunk.start.Tie as tie
 
-fresh-device-requires : tie.Need-fresh-device-requires
-fresh-device-requires c κs = search needs
-
 returns : tie.Need-returns
 returns c = ap (λ (d : Device). record { part = 0; device = d; begun = 0 }) (c .fresh-device .ensures)
 
 pub start-spec : {M : Type 1} → statement M
-start-spec = tie.close (tie.spec fresh-device-requires returns)
+start-spec =
+    tie.close
+    (tie.spec
+    (λ c κs. search needs)
+    returns)

@@ -1,0 +1,4 @@
+pub mod TextLaws
+pub mod NumberLaws
+pub mod PrintLaws
+pub mod LineLaws
