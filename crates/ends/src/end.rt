@@ -17,26 +17,10 @@ fn target_at(target: Target, stage: Stage) -> Target
     ensures { λ r. ⌜ r ≡ targetAt target stage ⌝ }
 {
     match stage {
-        Stage::Idle => target,
-        Stage::Opened => target,
-        Stage::Unheard => target,
-        Stage::Instruction(_) => target,
-        Stage::EepromRead(_) => target,
         Stage::EepromWrite(a) => Target::Eeprom(a),
-        Stage::ClockRead(_) => target,
-        Stage::ClockWrite(_) => target,
-        Stage::IdRead(_) => target,
         Stage::IdWrite(a) => Target::Id(a),
         Stage::StatusWrite(w) => Target::Status(record::number::protection_of(w / 4 % 4)),
-        Stage::StatusWriteMore => target,
-        Stage::UnlockSecond(_) => target,
-        Stage::UnlockMore => target,
-        Stage::WatchdogSecond => target,
-        Stage::WatchdogMore => target,
-        Stage::RamSecond => target,
-        Stage::RamMore => target,
-        Stage::EnableMore => target,
-        Stage::DisableMore => target,
+        _ => target,
     }
 }
 
@@ -104,26 +88,9 @@ fn clears_watchdog(stage: Stage) -> bool
     ensures { λ r. ⌜ r ≡ clearsWatchdog stage ⌝ }
 {
     match stage {
-        Stage::Idle => false,
-        Stage::Opened => false,
-        Stage::Unheard => false,
         Stage::Instruction(c) => is_clrwdt(c),
-        Stage::EepromRead(_) => false,
-        Stage::EepromWrite(_) => false,
-        Stage::ClockRead(_) => false,
-        Stage::ClockWrite(_) => false,
-        Stage::IdRead(_) => false,
-        Stage::IdWrite(_) => false,
-        Stage::StatusWrite(_) => false,
-        Stage::StatusWriteMore => false,
-        Stage::UnlockSecond(_) => false,
-        Stage::UnlockMore => false,
         Stage::WatchdogSecond => true,
-        Stage::WatchdogMore => false,
-        Stage::RamSecond => false,
-        Stage::RamMore => false,
-        Stage::EnableMore => false,
-        Stage::DisableMore => false,
+        _ => false,
     }
 }
 
@@ -131,26 +98,9 @@ fn clears_ram(stage: Stage) -> bool
     ensures { λ r. ⌜ r ≡ clearsRam stage ⌝ }
 {
     match stage {
-        Stage::Idle => false,
-        Stage::Opened => false,
-        Stage::Unheard => false,
         Stage::Instruction(c) => is_clrram(c),
-        Stage::EepromRead(_) => false,
-        Stage::EepromWrite(_) => false,
-        Stage::ClockRead(_) => false,
-        Stage::ClockWrite(_) => false,
-        Stage::IdRead(_) => false,
-        Stage::IdWrite(_) => false,
-        Stage::StatusWrite(_) => false,
-        Stage::StatusWriteMore => false,
-        Stage::UnlockSecond(_) => false,
-        Stage::UnlockMore => false,
-        Stage::WatchdogSecond => false,
-        Stage::WatchdogMore => false,
         Stage::RamSecond => true,
-        Stage::RamMore => false,
-        Stage::EnableMore => false,
-        Stage::DisableMore => false,
+        _ => false,
     }
 }
 

@@ -48,26 +48,11 @@ fn data_came(load: Load, stage: Stage) -> bool
     ensures { λ r. ⌜ r ≡ dataCame load stage ⌝ }
 {
     match stage {
-        Stage::Idle => false,
-        Stage::Opened => false,
-        Stage::Unheard => false,
-        Stage::Instruction(_) => false,
-        Stage::EepromRead(_) => false,
         Stage::EepromWrite(_) => load.offsets != 0,
-        Stage::ClockRead(_) => false,
-        Stage::ClockWrite(_) => false,
-        Stage::IdRead(_) => false,
         Stage::IdWrite(_) => load.offsets != 0,
         Stage::StatusWrite(_) => true,
         Stage::StatusWriteMore => true,
-        Stage::UnlockSecond(_) => false,
-        Stage::UnlockMore => false,
-        Stage::WatchdogSecond => false,
-        Stage::WatchdogMore => false,
-        Stage::RamSecond => false,
-        Stage::RamMore => false,
-        Stage::EnableMore => false,
-        Stage::DisableMore => false,
+        _ => false,
     }
 }
 
@@ -78,26 +63,10 @@ fn is_allowed(top: u8, g: Guard, stage: Stage) -> bool
     let p = g.protection;
     let lock = g.lock;
     match stage {
-        Stage::Idle => false,
-        Stage::Opened => false,
-        Stage::Unheard => false,
-        Stage::Instruction(_) => false,
-        Stage::EepromRead(_) => false,
         Stage::EepromWrite(a) => !page_protected(top, p, a),
-        Stage::ClockRead(_) => false,
-        Stage::ClockWrite(_) => false,
-        Stage::IdRead(_) => false,
         Stage::IdWrite(_) => is_open(lock),
         Stage::StatusWrite(_) => true,
-        Stage::StatusWriteMore => false,
-        Stage::UnlockSecond(_) => false,
-        Stage::UnlockMore => false,
-        Stage::WatchdogSecond => false,
-        Stage::WatchdogMore => false,
-        Stage::RamSecond => false,
-        Stage::RamMore => false,
-        Stage::EnableMore => false,
-        Stage::DisableMore => false,
+        _ => false,
     }
 }
 
@@ -145,26 +114,8 @@ fn enabled_at(k: u8, wel: bool, stage: Stage) -> bool
     ensures { λ r. ⌜ r ≡ enabledAt k wel stage ⌝ }
 {
     match stage {
-        Stage::Idle => wel,
-        Stage::Opened => wel,
-        Stage::Unheard => wel,
         Stage::Instruction(c) => latch_at(k, wel, c),
-        Stage::EepromRead(_) => wel,
-        Stage::EepromWrite(_) => wel,
-        Stage::ClockRead(_) => wel,
-        Stage::ClockWrite(_) => wel,
-        Stage::IdRead(_) => wel,
-        Stage::IdWrite(_) => wel,
-        Stage::StatusWrite(_) => wel,
-        Stage::StatusWriteMore => wel,
-        Stage::UnlockSecond(_) => wel,
-        Stage::UnlockMore => wel,
-        Stage::WatchdogSecond => wel,
-        Stage::WatchdogMore => wel,
-        Stage::RamSecond => wel,
-        Stage::RamMore => wel,
-        Stage::EnableMore => wel,
-        Stage::DisableMore => wel,
+        _ => wel,
     }
 }
 
@@ -241,21 +192,8 @@ pub fn lock_after(k: u8, lock: Lock, stage: Stage) -> Lock
         Stage::Opened => lock,
         Stage::Unheard => lock,
         Stage::Instruction(c) => lock_at(lock, c),
-        Stage::EepromRead(_) => Lock::Closed,
-        Stage::EepromWrite(_) => Lock::Closed,
-        Stage::ClockRead(_) => Lock::Closed,
-        Stage::ClockWrite(_) => Lock::Closed,
-        Stage::IdRead(_) => Lock::Closed,
-        Stage::IdWrite(_) => Lock::Closed,
-        Stage::StatusWrite(_) => Lock::Closed,
-        Stage::StatusWriteMore => Lock::Closed,
         Stage::UnlockSecond(w) => unlocked_by(k, w, lock),
-        Stage::UnlockMore => Lock::Closed,
-        Stage::WatchdogSecond => Lock::Closed,
-        Stage::WatchdogMore => Lock::Closed,
-        Stage::RamSecond => Lock::Closed,
-        Stage::RamMore => Lock::Closed,
         Stage::EnableMore => lock,
-        Stage::DisableMore => Lock::Closed,
+        _ => Lock::Closed,
     }
 }

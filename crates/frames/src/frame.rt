@@ -37,20 +37,8 @@ fn instruction_reply(d: Device, code: Code) -> Reply
     ensures { λ r. ⌜ r ≡ instructionReply d code ⌝ }
 {
     match code {
-        Code::Eeread => Reply::Off,
-        Code::Eewrite => Reply::Off,
-        Code::Eewrdi => Reply::Off,
-        Code::Eewren => Reply::Off,
         Code::Srread => Reply::Driven(device::lines::status(d)),
-        Code::Srwrite => Reply::Off,
-        Code::Read => Reply::Off,
-        Code::Write => Reply::Off,
-        Code::Unlock => Reply::Off,
-        Code::Idwrite => Reply::Off,
-        Code::Idread => Reply::Off,
-        Code::Clrwdt => Reply::Off,
-        Code::Clrram => Reply::Off,
-        Code::Other => Reply::Off,
+        _ => Reply::Off,
     }
 }
 
@@ -62,26 +50,11 @@ pub fn next_reply(eeprom: &[u8], id: &[u8], d: Device) -> Reply
     let frame = d.frame;
     let stage = frame.stage;
     match stage {
-        Stage::Idle => Reply::Off,
-        Stage::Opened => Reply::Off,
-        Stage::Unheard => Reply::Off,
         Stage::Instruction(c) => instruction_reply(d, c),
         Stage::EepromRead(a) => Reply::Driven(eeprom_byte(eeprom, a)),
-        Stage::EepromWrite(_) => Reply::Off,
         Stage::ClockRead(a) => Reply::Driven(device::registers::read_clock(d, a)),
-        Stage::ClockWrite(_) => Reply::Off,
         Stage::IdRead(a) => Reply::Driven(id_byte(id, a)),
-        Stage::IdWrite(_) => Reply::Off,
-        Stage::StatusWrite(_) => Reply::Off,
-        Stage::StatusWriteMore => Reply::Off,
-        Stage::UnlockSecond(_) => Reply::Off,
-        Stage::UnlockMore => Reply::Off,
-        Stage::WatchdogSecond => Reply::Off,
-        Stage::WatchdogMore => Reply::Off,
-        Stage::RamSecond => Reply::Off,
-        Stage::RamMore => Reply::Off,
-        Stage::EnableMore => Reply::Off,
-        Stage::DisableMore => Reply::Off,
+        _ => Reply::Off,
     }
 }
 
@@ -192,26 +165,10 @@ fn load_after(load: Load, v: u8, stage: Stage) -> Load
     ensures { λ r. ⌜ r ≡ loadAfter load v stage ⌝ }
 {
     match stage {
-        Stage::Idle => load,
-        Stage::Opened => load,
-        Stage::Unheard => load,
         Stage::Instruction(c) => instruction_load(load, v, c),
-        Stage::EepromRead(_) => load,
         Stage::EepromWrite(_) => loaded_with(load, v),
-        Stage::ClockRead(_) => load,
-        Stage::ClockWrite(_) => load,
-        Stage::IdRead(_) => load,
         Stage::IdWrite(_) => loaded_with(load, v),
-        Stage::StatusWrite(_) => load,
-        Stage::StatusWriteMore => load,
-        Stage::UnlockSecond(_) => load,
-        Stage::UnlockMore => load,
-        Stage::WatchdogSecond => load,
-        Stage::WatchdogMore => load,
-        Stage::RamSecond => load,
-        Stage::RamMore => load,
-        Stage::EnableMore => load,
-        Stage::DisableMore => load,
+        _ => load,
     }
 }
 
@@ -220,26 +177,8 @@ fn written_at(boots: bool, d: Device, v: u8, stage: Stage) -> Device
     ensures { λ r. ⌜ r ≡ writtenAt boots d v stage ⌝ }
 {
     match stage {
-        Stage::Idle => d,
-        Stage::Opened => d,
-        Stage::Unheard => d,
-        Stage::Instruction(_) => d,
-        Stage::EepromRead(_) => d,
-        Stage::EepromWrite(_) => d,
-        Stage::ClockRead(_) => d,
         Stage::ClockWrite(a) => device::registers::write_clock(boots, d, a, v),
-        Stage::IdRead(_) => d,
-        Stage::IdWrite(_) => d,
-        Stage::StatusWrite(_) => d,
-        Stage::StatusWriteMore => d,
-        Stage::UnlockSecond(_) => d,
-        Stage::UnlockMore => d,
-        Stage::WatchdogSecond => d,
-        Stage::WatchdogMore => d,
-        Stage::RamSecond => d,
-        Stage::RamMore => d,
-        Stage::EnableMore => d,
-        Stage::DisableMore => d,
+        _ => d,
     }
 }
 

@@ -1,51 +1,51 @@
--- `ends::end::clears_watchdog` meets its contract.
+-- `ends::end::clears_watchdog` meets its contract: the last arm is the stages that no other arm names, by their tags.
 -- Assumes nothing.
 use borrow.Author.Needs.{needs}
+use mathlib.Core.Path.{_≡_, refl}
+use mathlib.Core.Bool.{false}
+use mathlib.Core.List.{List, [], _∷_}
+use Prim.Native.Nat.{ℕ}
+use types.Run.{OneOf, miss}
+use denote.Enum.Declared.{tagOf}
+use Rattle.record.specs.declared.Stage.{Stage}
+use Rattle.record.specs.declared.Stage.the-variants.{Idle, Opened, Unheard, Instruction, EepromRead, EepromWrite, ClockRead, ClockWrite, IdRead, IdWrite, StatusWrite, StatusWriteMore, UnlockSecond, UnlockMore, WatchdogSecond, WatchdogMore, RamSecond, RamMore, EnableMore, DisableMore}
+use Rattle.record.proofs.Stage.{the-type}
+use Rattle.ends.specs.End.{clearsWatchdog}
 use Rattle.ends.proofs.end.clears_watchdog.Statement.{statement}
 use Rattle.ends.proofs.end.clears_watchdog.Tie as tie
+
+abbrev unnamed : List ℕ
+unnamed = 0 ∷ 1 ∷ 2 ∷ 4 ∷ 5 ∷ 6 ∷ 7 ∷ 8 ∷ 9 ∷ 10 ∷ 11 ∷ 12 ∷ 13 ∷ 15 ∷ 16 ∷ 17 ∷ 18 ∷ 19 ∷ []
+
+others : (s : Stage) → OneOf unnamed (tagOf the-type s) → false ≡ clearsWatchdog s
+others Idle h = refl
+others Opened h = refl
+others Unheard h = refl
+others (Instruction c) h = absurd (miss unnamed 3 tt h)
+others (EepromRead a) h = refl
+others (EepromWrite a) h = refl
+others (ClockRead a) h = refl
+others (ClockWrite a) h = refl
+others (IdRead a) h = refl
+others (IdWrite a) h = refl
+others (StatusWrite w) h = refl
+others StatusWriteMore h = refl
+others (UnlockSecond w) h = refl
+others UnlockMore h = refl
+others WatchdogSecond h = absurd (miss unnamed 14 tt h)
+others WatchdogMore h = refl
+others RamSecond h = refl
+others RamMore h = refl
+others EnableMore h = refl
+others DisableMore h = refl
 
 pub clears-watchdog-spec : {M : Type 1} → statement M
 clears-watchdog-spec =
     tie.close
     (tie.spec
     (λ c. search needs)
-    (λ c. search needs)
-    (λ c. search needs)
-    (λ c. search needs)
     (λ c κs. search needs)
     (λ c. search needs)
-    (λ c. search needs)
-    (λ c. search needs)
-    (λ c. search needs)
-    (λ c. search needs)
-    (λ c. search needs)
-    (λ c. search needs)
-    (λ c. search needs)
-    (λ c. search needs)
-    (λ c. search needs)
-    (λ c. search needs)
-    (λ c. search needs)
-    (λ c. search needs)
-    (λ c. search needs)
-    (λ c. search needs)
-    (λ c. search needs)
-    (λ c. simp (c .enum-told .given .1))
-    (λ c. simp (c .enum-told2 .given .1))
-    (λ c. simp (c .enum-told3 .given .1))
     (λ c. simp (c .is-clrwdt .ensures, c .before .before .stage .given .1))
-    (λ c. simp (c .enum-told4 .given .1))
-    (λ c. simp (c .enum-told5 .given .1))
-    (λ c. simp (c .enum-told6 .given .1))
-    (λ c. simp (c .enum-told7 .given .1))
-    (λ c. simp (c .enum-told8 .given .1))
-    (λ c. simp (c .enum-told9 .given .1))
-    (λ c. simp (c .enum-told10 .given .1))
-    (λ c. simp (c .enum-told11 .given .1))
-    (λ c. simp (c .enum-told12 .given .1))
-    (λ c. simp (c .enum-told13 .given .1))
-    (λ c. simp (c .enum-told14 .given .1))
-    (λ c. simp (c .enum-told15 .given .1))
-    (λ c. simp (c .enum-told16 .given .1))
-    (λ c. simp (c .enum-told17 .given .1))
-    (λ c. simp (c .enum-told18 .given .1))
-    (λ c. simp (c .enum-told19 .given .1)))
+    (λ c. simp (c .enum-told .given .1))
+    (λ c. others (c .before .args .stage) (c .match .keys3)))
