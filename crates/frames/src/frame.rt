@@ -33,7 +33,7 @@ fn instruction_reply(d: Device, code: Code) -> Reply
         Code::Eewrite => Reply::Off,
         Code::Eewrdi => Reply::Off,
         Code::Eewren => Reply::Off,
-        Code::Srread => Reply::Driven(device::lines::status(d)),
+        Code::Srread => Reply::Driven(block::lines::status(d)),
         Code::Srwrite => Reply::Off,
         Code::Read => Reply::Off,
         Code::Write => Reply::Off,
@@ -60,7 +60,7 @@ pub fn next_reply(eeprom: &[u8], id: &[u8], d: Device) -> Reply
         Stage::Instruction(c) => instruction_reply(d, c),
         Stage::EepromRead(a) => Reply::Driven(byte_at(eeprom, a.0)),
         Stage::EepromWrite(_) => Reply::Off,
-        Stage::ClockRead(a) => Reply::Driven(device::registers::read_clock(d, a)),
+        Stage::ClockRead(a) => Reply::Driven(block::registers::read_clock(d, a)),
         Stage::ClockWrite(_) => Reply::Off,
         Stage::IdRead(a) => Reply::Driven(byte_at(id, a.0)),
         Stage::IdWrite(_) => Reply::Off,
@@ -219,7 +219,7 @@ fn written_at(boots: bool, d: Device, v: u8, stage: Stage) -> Device
         Stage::EepromRead(_) => d,
         Stage::EepromWrite(_) => d,
         Stage::ClockRead(_) => d,
-        Stage::ClockWrite(a) => device::registers::write_clock(boots, d, a, v),
+        Stage::ClockWrite(a) => block::registers::write_clock(boots, d, a, v),
         Stage::IdRead(_) => d,
         Stage::IdWrite(_) => d,
         Stage::StatusWrite(_) => d,
@@ -242,7 +242,7 @@ pub fn after_byte(boots: bool, top: u8, v: u8, d: Device) -> Device
     let before = d.frame;
     let stage = before.stage;
     let old = d.load;
-    let busy = device::lines::in_progress(d);
+    let busy = block::lines::in_progress(d);
     let moved = stage_after(top, busy, v, stage);
     let load = load_after(old, v, stage);
     let frame = Frame { stage: moved };
