@@ -17,9 +17,9 @@ use Rattle.calendar.specs.Time.{advanced}
 use Rattle.calendar.proofs.TimeLaws.{st-stays, vbaten-stays}
 use Rattle.record.specs.declared.Device.{Device}
 use Rattle.record.specs.Registers.{secondsAt, dayAt}
-use Rattle.device.specs.Setters.{withRegs}
-use Rattle.device.specs.Lines.{active, alarm0At, alarm1At}
-use Rattle.device.specs.Alarm.{raise, match0, match1, alarmed}
+use Rattle.block.specs.Setters.{withRegs}
+use Rattle.block.specs.Lines.{active, alarm0At, alarm1At}
+use Rattle.block.specs.Alarm.{raise, match0, match1, alarmed}
 use Rattle.device.specs.Clock.{timeOf, withTime, running, due, dividerTick, calendarTick}
 use Rattle.device.specs.Tick.{alarmTick}
 

@@ -10,8 +10,8 @@ use Rattle.base.proofs.Tests.{pick-case}
 use Rattle.record.specs.declared.Device.{Device}
 use Rattle.record.specs.declared.Counters.{Counters}
 use Rattle.record.specs.Registers.{watchdogAt, periodOf, startupTicks}
-use Rattle.device.specs.Setters.{withRegs, withCounters}
-use Rattle.device.specs.Registers.{oscon}
+use Rattle.block.specs.Setters.{withRegs, withCounters}
+use Rattle.block.specs.Registers.{oscon}
 use Rattle.device.specs.Oscillator.{asked, oscillatorTick}
 use Rattle.device.specs.Watchdog.{counting, watchdogTick}
 use Rattle.device.specs.Clock.{running, dividerTick, calendarTick}

@@ -1,5 +1,4 @@
 pub mod ClockLaws
-pub mod LineLaws
 pub mod WatchdogLaws
 pub mod RegisterLaws
 pub mod KeepLaws

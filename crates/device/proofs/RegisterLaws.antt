@@ -26,7 +26,7 @@ use Rattle.record.specs.Part.{sizeOf, bootsOf}
 use Rattle.record.specs.Registers.{secondsAt, watchdogAt, writable, kept, periodOf, cycleTicks, startupTicks, dividerTicks, longPulse, delayTicks}
 use Rattle.record.specs.Stages.{selected, foreignToWip, idAt, idIn, eepromAt, eepromIn}
 use Rattle.refusals.specs.InRange.{InRange}
-use Rattle.device.specs.Registers.{afterWrite, writeClock}
+use Rattle.block.specs.Registers.{afterWrite, writeClock}
 use Rattle.device.specs.Oscillator.{asked, oscillatorTick}
 use Rattle.device.specs.Watchdog.{counting, pulseTick, timeOut, countedTick, watchdogTick}
 use Rattle.device.proofs.WatchdogLaws.{period-least}

@@ -16,8 +16,8 @@ use Rattle.record.specs.declared.Device.{Device}
 use Rattle.record.specs.declared.Cycle.{Cycle}
 use Rattle.record.specs.declared.Guard.{Guard}
 use Rattle.record.specs.Registers.{dayAt, watchdogAt, periodOf}
-use Rattle.device.specs.Setters.{withGuard}
-use Rattle.device.specs.Registers.{oscon}
+use Rattle.block.specs.Setters.{withGuard}
+use Rattle.block.specs.Registers.{oscon}
 use Rattle.device.specs.Oscillator.{oscillatorTick}
 use Rattle.device.specs.Watchdog.{counting, watchdogTick}
 use Rattle.device.specs.World.{World, wholeMask, eepromAfter, idAfter, protectionAfter}

@@ -22,7 +22,7 @@ use Rattle.record.specs.declared.Target.the-variants.{Eeprom, Id, Status}
 use Rattle.record.specs.Part.{bootsOf}
 use Rattle.record.specs.Registers.{watchdogAt, dividerTicks}
 use Rattle.refusals.specs.InRange.{InRange}
-use Rattle.device.specs.Registers.{oscon}
+use Rattle.block.specs.Registers.{oscon}
 use Rattle.device.specs.Oscillator.{oscillatorTick}
 use Rattle.device.specs.Watchdog.{watchdogTick}
 use Rattle.device.specs.Clock.{timeOf, running, dividerTick, calendarTick}

@@ -13,10 +13,10 @@ use Rattle.base.specs.Words.{pick}
 use Rattle.base.proofs.Tests.{by-cases, yes, no, both-left, both-right, neither, neither-left, neither-right, both-true, true-false}
 use Rattle.record.specs.declared.Device.{Device}
 use Rattle.refusals.specs.InRange.{InRange}
-use Rattle.device.specs.Lines.{irqLow, wdoLow, wip, differ, changed}
+use Rattle.block.specs.Lines.{irqLow, wdoLow, wip, differ, changed}
 use Rattle.device.specs.World.{World, wholeMask, eepromAfter, idAfter, protectionAfter}
 use Rattle.device.specs.Tick.{alive, tick, deviceTick, ends, Waited, plus, waited, ticks, DeviceWaited, plusDevice, deviceWaited, ended, settled}
-use Rattle.device.proofs.LineLaws.{differ-false, differ-same}
+use Rattle.block.proofs.LineLaws.{differ-false, differ-same}
 use Rattle.device.proofs.TickLaws.{Ticked, ticked, tick-device, tick-eeprom, tick-id, tick-dead, tick-alive}
 
 -- The three laws of a wait; no other proof unfolds `waited`.

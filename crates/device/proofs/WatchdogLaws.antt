@@ -10,7 +10,7 @@ use Rattle.base.specs.Words.{every}
 use Rattle.base.proofs.Every.{every-at, bound-below}
 use Rattle.record.specs.declared.Device.{Device}
 use Rattle.record.specs.Registers.{periods, periodOf}
-use Rattle.device.specs.Setters.{withCounters}
+use Rattle.block.specs.Setters.{withCounters}
 use Rattle.device.specs.Watchdog.{pulseTick}
 
 -- every period is above 31 and below 2,097,153

@@ -13,7 +13,7 @@ use Rattle.calendar.specs.Time.{advanced}
 use Rattle.record.specs.declared.Device.{Device}
 use Rattle.record.specs.declared.Counters.{Counters}
 use Rattle.record.specs.Registers.{hundredthsAt, secondsAt, minutesAt, hoursAt, dayAt, dateAt, monthAt, yearAt, dividerTicks}
-use Rattle.device.specs.Setters.{withCounters, withRegs}
+use Rattle.block.specs.Setters.{withCounters, withRegs}
 
 -- the time registers, 00h to 07h
 abbrev pub timeOf : List ℕ → Time

@@ -1,9 +1,5 @@
-pub mod Setters
-pub mod Registers
-pub mod Lines
 pub mod Oscillator
 pub mod Watchdog
 pub mod Clock
-pub mod Alarm
 pub mod World
 pub mod Tick

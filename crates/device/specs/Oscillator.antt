@@ -9,7 +9,7 @@ use Rattle.base.specs.Words.{pick, bit}
 use Rattle.record.specs.declared.Device.{Device}
 use Rattle.record.specs.declared.Counters.{Counters}
 use Rattle.record.specs.Registers.{secondsAt, startupTicks}
-use Rattle.device.specs.Setters.{withCounters}
+use Rattle.block.specs.Setters.{withCounters}
 
 -- "The oscillator is asked to run by ST (01h bit 7) on W parts, always on B parts."
 abbrev pub asked : Bool → List ℕ → Bool

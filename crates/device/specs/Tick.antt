@@ -9,13 +9,13 @@ use Rattle.base.specs.Words.{pick, bit}
 use Rattle.calendar.specs.Time.{advanced}
 use Rattle.record.specs.declared.Device.{Device}
 use Rattle.record.specs.Registers.{dayAt}
-use Rattle.device.specs.Setters.{withCycle, withGuard, withRegs}
-use Rattle.device.specs.Registers.{oscon}
-use Rattle.device.specs.Lines.{wip, changed}
+use Rattle.block.specs.Setters.{withCycle, withGuard, withRegs}
+use Rattle.block.specs.Registers.{oscon}
+use Rattle.block.specs.Lines.{wip, changed}
 use Rattle.device.specs.Oscillator.{oscillatorTick}
 use Rattle.device.specs.Watchdog.{watchdogTick}
 use Rattle.device.specs.Clock.{timeOf, due, calendarTick}
-use Rattle.device.specs.Alarm.{alarmed}
+use Rattle.block.specs.Alarm.{alarmed}
 use Rattle.device.specs.World.{World, world, wholeMask, eepromAfter, idAfter, protectionAfter}
 
 -- the cycle with k ticks left

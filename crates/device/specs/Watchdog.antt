@@ -10,7 +10,7 @@ use Rattle.base.specs.Words.{pick, bit}
 use Rattle.record.specs.declared.Device.{Device}
 use Rattle.record.specs.declared.Counters.{Counters}
 use Rattle.record.specs.Registers.{watchdogAt, periodOf, shortPulse, longPulse}
-use Rattle.device.specs.Setters.{withCounters, withRegs}
+use Rattle.block.specs.Setters.{withCounters, withRegs}
 
 -- "It counts while bit 7 is set, bit 6 clear, OSCON set."
 abbrev pub counting : Bool → ℕ → Bool

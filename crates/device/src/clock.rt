@@ -1,5 +1,5 @@
 // The divider, the calendar and the alarms of a tick.
-use crate::registers::SECONDS;
+use block::registers::SECONDS;
 use calendar::Time;
 use record::Device;
 use record::limits::DIVIDER_TICKS;
@@ -72,7 +72,7 @@ pub fn clock_tick(counted: bool, d: Device) -> Device
         let a = calendar::advance(time_of(old));
         let time = a.time;
         let stepped = with_time(old, time);
-        let regs = crate::alarm::alarms(a, stepped);
+        let regs = block::alarm::alarms(a, stepped);
         let mut next = moved;
         next.regs = regs;
         return next;

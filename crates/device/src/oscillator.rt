@@ -1,5 +1,5 @@
 // The oscillator's part of a tick.
-use crate::registers::SECONDS;
+use block::registers::SECONDS;
 use record::Device;
 use record::limits::STARTUP_TICKS;
 ghost use mathlib.Core.Path.{_≡_};

@@ -1,5 +1,5 @@
 // One tick of the record.
-use crate::registers::DAY;
+use block::registers::DAY;
 use record::Cycle;
 use record::Device;
 use record::Guard;

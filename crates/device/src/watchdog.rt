@@ -1,5 +1,5 @@
 // The watchdog's part of a tick: pulse, delay, count.
-use crate::registers::WATCHDOG;
+use block::registers::WATCHDOG;
 use record::Counters;
 use record::Device;
 use record::limits::LONG_PULSE;

@@ -18,12 +18,12 @@ use Rattle.record.specs.Fresh.{fresh}
 use Rattle.refusals.specs.Range.{outOfRange, countersOut, frameOut, bitOutside}
 use Rattle.refusals.specs.Refusal.{refusalOf}
 use Rattle.device.specs.World.{World, world}
-use Rattle.device.specs.Registers.{readClock, writeClock, afterWrite}
-use Rattle.device.specs.Lines.{irqLow, wdoLow, changed, statusByte}
+use Rattle.block.specs.Registers.{readClock, writeClock, afterWrite}
+use Rattle.block.specs.Lines.{irqLow, wdoLow, changed, statusByte}
 use Rattle.device.specs.Oscillator.{oscillatorTick}
 use Rattle.device.specs.Watchdog.{watchdogTick}
 use Rattle.device.specs.Clock.{withTime, calendarTick}
-use Rattle.device.specs.Alarm.{matchesAt, match0, match1, alarmed}
+use Rattle.block.specs.Alarm.{matchesAt, match0, match1, alarmed}
 use Rattle.device.specs.Tick.{cycleDevice, cycleTick, clockwork, tick, waited}
 use Rattle.frames.specs.Frame.{nextReply, afterByte, afterSelect}
 use Rattle.ends.specs.End.{carried, cycleAfter, welAfter, afterEnd}

@@ -28,9 +28,9 @@ use Rattle.record.specs.Numbers.{codeOf}
 use Rattle.record.specs.Part.{topOf, bootsOf}
 use Rattle.record.specs.Stages.{heardUnderWip, foreignToWip, idAt, eepromAt}
 use Rattle.refusals.specs.InRange.{InRange}
-use Rattle.device.specs.Setters.{withStage, withLoad}
-use Rattle.device.specs.Lines.{wip}
-use Rattle.device.specs.Registers.{writeClock}
+use Rattle.block.specs.Setters.{withStage, withLoad}
+use Rattle.block.specs.Lines.{wip}
+use Rattle.block.specs.Registers.{writeClock}
 use Rattle.device.proofs.RegisterLaws.{Beside, write-beside, write-in-range, write-regs-length, write-sram-length}
 use Rattle.frames.specs.Frame.{secondStage, stageAfter, emptied, loadedWith, loadAfter, writtenAt, afterByte, afterSelect}
 

@@ -18,9 +18,9 @@ use Rattle.record.specs.declared.Reply.the-variants.{Driven, Off}
 use Rattle.record.specs.Address.{takenEeprom, rollEeprom, takenId, rollId, rollClock, offsetOf}
 use Rattle.record.specs.Stages.{heardUnderWip}
 use Rattle.record.specs.Numbers.{codeOf}
-use Rattle.device.specs.Setters.{withStage, withLoad}
-use Rattle.device.specs.Registers.{readClock, writeClock}
-use Rattle.device.specs.Lines.{wip, statusByte}
+use Rattle.block.specs.Setters.{withStage, withLoad}
+use Rattle.block.specs.Registers.{readClock, writeClock}
+use Rattle.block.specs.Lines.{wip, statusByte}
 
 -- "Instruction and address bytes get no reply. Reads then answer a byte per byte. SRREAD answers STATUS from its second byte".
 -- After the instruction byte only SRREAD answers: every other read takes its address next.

@@ -13,7 +13,7 @@ use Rattle.record.specs.declared.Stage.the-variants.{Idle}
 use Rattle.record.specs.declared.Lock.the-variants.{Closed}
 use Rattle.record.specs.Registers.{dayAt, watchdogAt}
 use Rattle.record.specs.Fresh.{freshRegs, freshSram}
-use Rattle.device.specs.Setters.{withPower}
+use Rattle.block.specs.Setters.{withPower}
 use Rattle.device.specs.World.{World, world, eepromAfter, idAfter, protectionAfter, storedCount}
 
 -- VBATEN is 04h bit 3

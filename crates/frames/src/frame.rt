@@ -37,7 +37,7 @@ fn instruction_reply(d: Device, code: Code) -> Reply
     ensures { λ r. ⌜ r ≡ instructionReply d code ⌝ }
 {
     match code {
-        Code::Srread => Reply::Driven(device::lines::status(d)),
+        Code::Srread => Reply::Driven(block::lines::status(d)),
         _ => Reply::Off,
     }
 }
@@ -52,7 +52,7 @@ pub fn next_reply(eeprom: &[u8], id: &[u8], d: Device) -> Reply
     match stage {
         Stage::Instruction(c) => instruction_reply(d, c),
         Stage::EepromRead(a) => Reply::Driven(eeprom_byte(eeprom, a)),
-        Stage::ClockRead(a) => Reply::Driven(device::registers::read_clock(d, a)),
+        Stage::ClockRead(a) => Reply::Driven(block::registers::read_clock(d, a)),
         Stage::IdRead(a) => Reply::Driven(id_byte(id, a)),
         _ => Reply::Off,
     }
@@ -177,7 +177,7 @@ fn written_at(boots: bool, d: Device, v: u8, stage: Stage) -> Device
     ensures { λ r. ⌜ r ≡ writtenAt boots d v stage ⌝ }
 {
     match stage {
-        Stage::ClockWrite(a) => device::registers::write_clock(boots, d, a, v),
+        Stage::ClockWrite(a) => block::registers::write_clock(boots, d, a, v),
         _ => d,
     }
 }
@@ -189,7 +189,7 @@ pub fn after_byte(boots: bool, top: u8, v: u8, d: Device) -> Device
     let before = d.frame;
     let stage = before.stage;
     let old = d.load;
-    let busy = device::lines::in_progress(d);
+    let busy = block::lines::in_progress(d);
     let moved = stage_after(top, busy, v, stage);
     let load = load_after(old, v, stage);
     let frame = Frame { stage: moved };

@@ -1,6 +1,6 @@
 // Power cut and power up, of the record.
-use device::registers::DAY;
-use device::registers::WATCHDOG;
+use block::registers::DAY;
+use block::registers::WATCHDOG;
 use record::Counters;
 use record::Cycle;
 use record::Device;

@@ -13,7 +13,7 @@ use Rattle.record.specs.Stages.{selected}
 use Rattle.refusals.specs.InRange.{InRange}
 use Rattle.record.specs.Numbers.{protectionNumber}
 use Rattle.device.specs.World.{World}
-use Rattle.device.specs.Lines.{wip}
+use Rattle.block.specs.Lines.{wip}
 use Rattle.frames.specs.Frame.{loadAfter, afterByte, afterSelect}
 use Rattle.frames.specs.Power.{afterUp}
 use Rattle.frames.proofs.FrameLaws.{written-beside}

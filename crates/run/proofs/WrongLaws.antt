@@ -14,8 +14,8 @@ use Rattle.refusals.specs.Refusal.{refusalOf}
 use Rattle.record.specs.Fresh.{fresh}
 use Rattle.base.specs.Words.{every, storeUnder, members}
 use Rattle.device.specs.World.{World}
-use Rattle.device.specs.Lines.{irqLow, wdoLow, changed, statusByte}
-use Rattle.device.specs.Registers.{readClock, writeClock, afterWrite}
+use Rattle.block.specs.Lines.{irqLow, wdoLow, changed, statusByte}
+use Rattle.block.specs.Registers.{readClock, writeClock, afterWrite}
 use Rattle.device.specs.Oscillator.{oscillatorTick}
 use Rattle.device.specs.Watchdog.{watchdogTick}
 use Rattle.device.specs.Clock.{calendarTick}

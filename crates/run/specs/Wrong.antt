@@ -10,7 +10,7 @@ use Rattle.record.specs.declared.Act.the-variants.{Select, Byte, End, Wait, Cut
 use Rattle.record.specs.declared.Guard.{Guard}
 use Rattle.record.specs.declared.Lock.the-variants.{Open}
 use Rattle.device.specs.World.{World, world}
-use Rattle.device.specs.Setters.{withGuard}
+use Rattle.block.specs.Setters.{withGuard}
 use Rattle.ledger.specs.State.{Memory, eeprom, id, start}
 use Rattle.ledger.specs.Bytes.{byteOf}
 use Rattle.ledger.specs.Steps.{ledgerRun}

@@ -17,7 +17,7 @@ use Rattle.record.specs.declared.Reply.the-variants.{Off}
 use Rattle.record.specs.Part.{sizeOf, topOf, idSize}
 use Rattle.record.specs.Fresh.{fresh}
 use Rattle.device.specs.World.{World, world}
-use Rattle.device.specs.Lines.{irqLow, wdoLow}
+use Rattle.block.specs.Lines.{irqLow, wdoLow}
 use Rattle.acts.specs.declared.Answer.{Answer}
 use Rattle.acts.specs.Act.{Outcome, answered}
 use Rattle.text.specs.Text.{Buffer, buffer, append}

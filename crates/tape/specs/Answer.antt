@@ -11,7 +11,7 @@ use Rattle.record.specs.declared.Act.{Act}
 use Rattle.record.specs.declared.Device.{Device}
 use Rattle.record.specs.Part.{isPart, sizeOf}
 use Rattle.device.specs.World.{World, world}
-use Rattle.device.specs.Lines.{irqLow, wdoLow}
+use Rattle.block.specs.Lines.{irqLow, wdoLow}
 use Rattle.acts.specs.Act.{Outcome, performed}
 use Rattle.run.specs.Claim.{freshWorld}
 use Rattle.text.specs.declared.Request.{Request}

@@ -11,7 +11,7 @@ ghost use Prim.Native.Nat.{ℕ, _+_, _≤_};
 ghost use lib.Dec.{eqb};
 ghost use lib.ListN.{length};
 ghost use Rattle.record.specs.Part.{idSize};
-ghost use Rattle.device.specs.Lines.{irqLow, wdoLow};
+ghost use Rattle.block.specs.Lines.{irqLow, wdoLow};
 ghost use Rattle.text.specs.Text.{buffer, append};
 ghost use Rattle.text.specs.Print.{outOf, answerLine, answerRoom};
 ghost use Rattle.tape.specs.Answer.{partAnswer, actAnswer, refusedLine, requestAnswer, lineAnswer, shownIn, shownBy, setupOf, eepromRoom};
@@ -37,8 +37,8 @@ fn put_line(
     requires { ⌜ at + answerRoom ≤ length (now out) ⌝ }
     ensures { λ r. ⌜ buffer (now (out .exit)) r ≡ append (buffer (now (out .entry)) at) (answerLine number (outOf number counted reply count) (eqb part 0 || not (irqLow d)) (eqb part 0 || not (wdoLow d))) ⌝ }
 {
-    let irq = high(part, device::lines::irq_low(d));
-    let wdo = high(part, device::lines::wdo_low(d));
+    let irq = high(part, block::lines::irq_low(d));
+    let wdo = high(part, block::lines::wdo_low(d));
     text::print::put_answer(number, counted, reply, count, irq, wdo, out, at)
 }
 

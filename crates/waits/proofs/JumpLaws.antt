@@ -14,15 +14,15 @@ use Rattle.base.proofs.Tests.{by-cases, pick-case, pick-when, true-false, neith
 use Rattle.record.specs.declared.Device.{Device}
 use Rattle.record.specs.declared.Counters.{Counters}
 use Rattle.record.specs.Registers.{watchdogAt, secondsAt, periodOf, startupTicks, dividerTicks}
-use Rattle.device.specs.Setters.{withCounters, withRegs}
-use Rattle.device.specs.Registers.{oscon}
-use Rattle.device.specs.Lines.{irqLow, wdoLow, wip, changed}
+use Rattle.block.specs.Setters.{withCounters, withRegs}
+use Rattle.block.specs.Registers.{oscon}
+use Rattle.block.specs.Lines.{irqLow, wdoLow, wip, changed}
 use Rattle.device.specs.Oscillator.{asked, oscillatorTick}
 use Rattle.device.specs.Watchdog.{counting, pulseTick, watchdogTick}
 use Rattle.device.specs.Clock.{running, due, hundredthDue, dividerTick, calendarTick}
 use Rattle.device.specs.Tick.{withLeft, cycleDevice, alarmTick, clockwork, alive, deviceTick, DeviceWaited, plusDevice, deviceWaited}
 use Rattle.waits.specs.Jump.{Quiet, counts, runs, jumpedCounters, jumped, above, watched, gap, divided, quietTicks}
-use Rattle.device.proofs.LineLaws.{differ-same}
+use Rattle.block.proofs.LineLaws.{differ-same}
 use Rattle.device.proofs.ClockLaws.{clock-still}
 use Rattle.device.proofs.WaitLaws.{device-wait-go}
 

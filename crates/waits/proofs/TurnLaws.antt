@@ -13,7 +13,7 @@ use Rattle.base.proofs.Tests.{no, pick-when, both-left, both-right}
 use Rattle.record.specs.declared.Device.{Device}
 use Rattle.record.specs.declared.Counters.{Counters}
 use Rattle.record.specs.Registers.{watchdogAt, startupTicks}
-use Rattle.device.specs.Setters.{withCounters}
+use Rattle.block.specs.Setters.{withCounters}
 use Rattle.device.specs.Oscillator.{asked}
 use Rattle.device.specs.World.{World, world}
 use Rattle.device.specs.Tick.{withLeft, alive, Waited, DeviceWaited, plusDevice, deviceWaited}

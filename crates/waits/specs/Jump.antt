@@ -12,8 +12,8 @@ use Rattle.base.specs.Words.{pick}
 use Rattle.record.specs.declared.Device.{Device}
 use Rattle.record.specs.declared.Counters.{Counters}
 use Rattle.record.specs.Registers.{watchdogAt, periodOf, startupTicks, dividerTicks}
-use Rattle.device.specs.Setters.{withCounters}
-use Rattle.device.specs.Registers.{oscon}
+use Rattle.block.specs.Setters.{withCounters}
+use Rattle.block.specs.Registers.{oscon}
 use Rattle.device.specs.Oscillator.{asked}
 use Rattle.device.specs.Watchdog.{counting}
 use Rattle.device.specs.Clock.{running, hundredthDue}

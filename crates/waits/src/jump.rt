@@ -1,6 +1,6 @@
 // Ticks in which only counts move, taken at once.
-use device::registers::SECONDS;
-use device::registers::WATCHDOG;
+use block::registers::SECONDS;
+use block::registers::WATCHDOG;
 use record::Cycle;
 use record::Device;
 use record::limits::STARTUP_TICKS;

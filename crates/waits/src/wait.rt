@@ -1,7 +1,7 @@
 // A wait of the record: ticks up to the first that changes IRQ, WDO or WIP, or n.
 use crate::jump::jump;
 use crate::jump::quiet_ticks;
-use device::registers::DAY;
+use block::registers::DAY;
 use record::Device;
 ghost use mathlib.Core.Path.{_≡_};
 ghost use Rattle.device.specs.Tick.{alive, deviceWaited};
@@ -35,7 +35,7 @@ pub fn wait_device(boots: bool, n: u64, d: Device) -> Waited
             continue;
         }
         let after = device::tick::device_tick(boots, now_device);
-        let stops = device::lines::lines_changed(now_device, after);
+        let stops = block::lines::lines_changed(now_device, after);
         now_device = after;
         left -= 1;
         if stops {

@@ -3,7 +3,7 @@
 use mathlib.Core.Path.{_≡_, ap, _∙_}
 use mathlib.Core.Bool.{Bool, not, _||_}
 use lib.Dec.{eqb}
-use Rattle.device.specs.Lines.{irqLow, wdoLow}
+use Rattle.block.specs.Lines.{irqLow, wdoLow}
 use Rattle.text.specs.Text.{buffer, append}
 use Rattle.text.specs.Print.{outOf, answerLine}
 use borrow.Author.Needs.{needs}

@@ -1,0 +1,4 @@
+pub mod Setters
+pub mod Registers
+pub mod Lines
+pub mod Alarm

@@ -1,0 +1,125 @@
+// READ and WRITE of the clock block: registers 00h to 1Fh, SRAM 20h to 5Fh.
+use record::ClockAddress;
+use record::Counters;
+use record::Device;
+use record::limits::WRITABLE;
+ghost use mathlib.Core.Path.{_≡_};
+ghost use Prim.Native.Nat.{_<_};
+ghost use Rattle.base.specs.Words.{pick};
+ghost use Rattle.block.specs.Registers.{made, readClock, afterWrite, writeRegister, writeClock};
+
+// Addresses by the sheet's names.
+pub const SECONDS: usize = 0x01;
+
+pub const HOURS: usize = 0x03;
+
+pub const DAY: usize = 0x04;
+
+pub const YEAR: usize = 0x07;
+
+pub const CONTROL: usize = 0x08;
+
+pub const WATCHDOG: usize = 0x0a;
+
+fn bits_if(test: bool, v: u8) -> u8
+    ensures { λ r. ⌜ r ≡ pick test v 0 ⌝ }
+{
+    if test { v } else { 0 }
+}
+
+// The bits that are made when a register is read: OSCON, the leap bit, and 12/24 of both alarms.
+fn made_bits(d: Device, at: ClockAddress) -> u8
+    ensures { λ r. ⌜ r ≡ made d (at .0) ⌝ }
+{
+    let a = at.0;
+    if a == 0x04 {
+        let c = d.counters;
+        return bits_if(c.startup == record::limits::STARTUP_TICKS, 0x20);
+    }
+    if a == 0x06 {
+        return bits_if(calendar::leap(d.regs[YEAR]), 0x20);
+    }
+    if a == 0x0e {
+        return bits_if(d.regs[HOURS] / 64 % 2 == 1, 0x40);
+    }
+    if a == 0x15 {
+        return bits_if(d.regs[HOURS] / 64 % 2 == 1, 0x40);
+    }
+    0
+}
+
+// What READ answers at an address.
+pub fn read_clock(d: Device, at: ClockAddress) -> u8
+    ensures { λ r. ⌜ r ≡ readClock d at ⌝ }
+{
+    let a = at.0;
+    if a < 0x20 {
+        let i = a as usize;
+        let m = made_bits(d, at);
+        return d.regs[i] | m;
+    }
+    if a < 0x60 {
+        let i = (a - 0x20) as usize;
+        return d.sram[i];
+    }
+    0
+}
+
+// What follows from the value stored at a register: 01h may stop the oscillator, 0Ah restarts the watchdog.
+fn after_write(boots: bool, at: ClockAddress, v: u8, c: Counters) -> Counters
+    ensures { λ r. ⌜ r ≡ afterWrite boots (at .0) v c ⌝ }
+{
+    let a = at.0;
+    if a == 0x01 {
+        if !boots & !(v / 128 % 2 == 1) {
+            let mut next = c;
+            next.startup = 0;
+            return next;
+        }
+        return c;
+    }
+    if a == 0x0a {
+        let mut next = c;
+        next.watchdog = 0;
+        if (v / 128 % 2 == 1) & (v / 32 % 2 == 1) & !(v / 64 % 2 == 1) {
+            next.delay = record::limits::DELAY_TICKS;
+            return next;
+        }
+        next.delay = 0;
+        return next;
+    }
+    c
+}
+
+// WRITE to a register, under its mask.
+fn write_register(boots: bool, d: Device, at: ClockAddress, v: u8) -> Device
+    requires { ⌜ at .0 < 32 ⌝ }
+    ensures { λ r. ⌜ r ≡ writeRegister boots d (at .0) v ⌝ }
+{
+    let a = at.0;
+    let i = a as usize;
+    let stored = v & WRITABLE[i];
+    let old = d.counters;
+    let counters = after_write(boots, at, stored, old);
+    let mut next = d;
+    next.regs[i] = stored;
+    next.counters = counters;
+    next
+}
+
+// What WRITE does at an address; from 60h up it is dropped (bench).
+pub fn write_clock(boots: bool, d: Device, at: ClockAddress, v: u8) -> Device
+    ensures { λ r. ⌜ r ≡ writeClock boots d at v ⌝ }
+{
+    let a = at.0;
+    if a < 0x20 {
+        return write_register(boots, d, at, v);
+    }
+    if a < 0x60 {
+        let i = (a - 0x20) as usize;
+        let mut next = d;
+        next.sram[i] = v;
+        return next;
+    }
+    d
+}
