@@ -2,7 +2,7 @@
 -- are those that it used; so the memories are the ledger's.
 -- Assumes nothing.
 use mathlib.Core.Path.{_≡_, refl, sym, ap, subst, _∙_}
-use mathlib.Core.Bool.{Bool, true, false, true≢false, false≢true}
+use mathlib.Core.Bool.{true, false, true≢false}
 use mathlib.Core.List.{List, [], _∷_, _++_}
 use Prim.Native.Nat.{ℕ}
 use lib.Dec.{eqb}
@@ -22,10 +22,10 @@ use Rattle.run.proofs.RunLaws.{after-append, fed-append}
 use Rattle.text.specs.declared.Request.{Request}
 use Rattle.text.specs.declared.Request.the-variants.{PartLine, ActLine, Bad}
 use Rattle.text.specs.Request.{requestOf}
-use Rattle.text.specs.Print.{Out, shown, z, outOf, counts, replyOut}
+use Rattle.text.specs.Print.{shown, z, outOf}
 use Rattle.tape.specs.Answer.{Setup, setup, noPart, Answered, answer, refusedLine, outcomeAnswer, freshSetup, requestAnswer, lineAnswer}
 use Rattle.tape.specs.Tape.{linesFrom}
-use Rattle.tape.specs.Steps.{setupAfter, ticksOf, ticksPrinted, stepOf, stepsFrom, TapeAccounted, leftAfter, BytesAccounted}
+use Rattle.tape.specs.Steps.{setupAfter, ticksOf, ticksPrinted, stepOf, stepsFrom, TapeAccounted, BytesAccounted}
 use Rattle.tape.proofs.WholeLaws.{setup-lines}
 
 -- the acts that lines name

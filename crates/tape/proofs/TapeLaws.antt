@@ -3,28 +3,27 @@
 -- Assumes nothing.
 use mathlib.Core.Path.{_≡_, refl, sym, ap, subst, _∙_}
 use mathlib.Core.Logic.{_⊎_, inl, inr, ⊎-elim}
-use mathlib.Core.Bool.{Bool, true, false, not, _&&_, _||_}
+use mathlib.Core.Bool.{true, false, _&&_, _||_}
 use mathlib.Core.List.{List, [], _∷_, _++_, append-nil, append-assoc}
-use Prim.Native.Nat.{ℕ, zero, suc, _+_, _-_, _<_, _≤_}
-use native.Mathlib.Nat.{suc-ne-zero, suc-inj, sub-zero, suc-add, zero-add, add-zero, add-assoc}
+use Prim.Native.Nat.{ℕ, suc, _+_, _-_, _<_, _≤_}
+use native.Mathlib.Nat.{sub-zero, suc-add, zero-add, add-zero, add-assoc}
 use native.Mathlib.Omega.{arith}
-use borrow.Author.Tests.{lt-ltb, le-ltb, le-leb, lt-leb, leb-true, leb-false, ltb-true, ltb-false, eqb-true, eqb-false, eq-eqb, ne-eqb, not-true, not-false}
+use borrow.Author.Tests.{lt-ltb, le-ltb, leb-true, leb-false, ltb-true, ltb-false, eqb-true, eqb-false, eq-eqb, ne-eqb, not-true, not-false}
 use lib.Dec.{leb, ltb, eqb}
 use lib.ListN.{length, take, drop, getD, set, length-append, length-take, length-drop, drop-of-length-le, take-append-drop}
 use native.Mathlib.Numerals.{add-one}
 use lib.Seq.{take-all, take-suc, take-suc-set, drop-cons, getD-drop, length-sets, take-append-le, take-take, take-add, drop-drop, length-take-le, append-snoc}
-use Rattle.base.specs.Words.{pick}
 use Rattle.base.proofs.Tests.{by-cases, yes, no, either, both-left, both-right, neither-left, neither-right}
 use Rattle.record.specs.Part.{idSize}
 use Rattle.text.specs.declared.Request.{Request}
 use Rattle.text.specs.declared.Request.the-variants.{Bad}
-use Rattle.text.specs.Text.{leading, Buffer, buffer, append}
-use Rattle.text.specs.Line.{lineLimit, tooLong}
+use Rattle.text.specs.Text.{leading, Buffer, append}
+use Rattle.text.specs.Line.{lineLimit}
 use Rattle.text.specs.Request.{requestOf}
 use Rattle.text.specs.Print.{newline, answerRoom}
 use Rattle.text.proofs.TextLaws.{leading-first, leading-rest, leading-taken, leading-ends, leading-within, append-none, append-join}
-use Rattle.tape.specs.Answer.{Setup, setup, Answered, requestAnswer, lineAnswer, answerText, Shown, shownIn, eepromRoom}
-use Rattle.tape.specs.Tape.{linesFrom, answersTo, tapeAnswers, emptySetup, State, state, kept, keptLimit, Fed, fedTo, ended, fedByte, after, fed, finished, plain, takenWithin, Taken, putInto, roomIn, feedInto, buffersFit}
+use Rattle.tape.specs.Answer.{Setup, requestAnswer, lineAnswer, Shown, shownIn, eepromRoom}
+use Rattle.tape.specs.Tape.{State, state, kept, keptLimit, Fed, fedTo, ended, fedByte, after, fed, finished, plain, takenWithin, Taken, putInto, roomIn, feedInto, buffersFit}
 
 -- two chunks answer as their join does
 pub after-join : (a b : List ℕ) (f : Fed) → after a (after b f) ≡ after (a ++ b) f

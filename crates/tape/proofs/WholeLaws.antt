@@ -3,13 +3,12 @@
 -- Assumes nothing.
 use mathlib.Core.Path.{_≡_, refl, sym, ap, _∙_}
 use mathlib.Core.Bool.{Bool, true, false, _&&_, and-false}
-use mathlib.Core.List.{List, [], _∷_, _++_, append-nil, append-assoc}
-use Prim.Native.Nat.{ℕ, zero, suc, _+_, _-_, _<_, _≤_, suc-le-suc}
-use native.Mathlib.Nat.{not-suc-le-zero}
+use mathlib.Core.List.{List, [], _∷_, _++_, append-nil}
+use Prim.Native.Nat.{ℕ, suc, _+_, _-_, _<_, _≤_, suc-le-suc}
 use native.Mathlib.Omega.{arith}
-use borrow.Author.Tests.{le-ltb, eqb-true, eq-eqb, ne-eqb}
+use borrow.Author.Tests.{le-ltb, ne-eqb}
 use lib.Dec.{ltb, eqb}
-use lib.ListN.{length, take, length-append}
+use lib.ListN.{length, length-append}
 use Rattle.base.specs.Words.{pick}
 use Rattle.base.proofs.Tests.{by-cases, yes, no, pick-case}
 use Rattle.record.specs.Part.{isPart}
@@ -19,7 +18,7 @@ use Rattle.text.specs.declared.Request.the-variants.{PartLine, ActLine, Bad}
 use Rattle.text.specs.Request.{requestOf}
 use Rattle.text.specs.Print.{newline, answerRoom, z}
 use Rattle.tape.specs.Answer.{Setup, setup, Answered, answer, refusedLine, freshSetup, requestAnswer, lineAnswer, answerText}
-use Rattle.tape.specs.Tape.{lastLine, linesFrom, answersTo, tapeAnswers, emptySetup, State, state, kept, keptLimit, Fed, fedTo, ended, fedByte, after, fed, finished, answersFrom, takenWithin}
+use Rattle.tape.specs.Tape.{lastLine, linesFrom, answersTo, tapeAnswers, emptySetup, State, state, kept, Fed, fedTo, ended, fedByte, after, fed, finished, answersFrom, takenWithin}
 use Rattle.tape.specs.Steps.{setupAfter}
 use Rattle.tape.proofs.TapeLaws.{after-join, kept-join, kept-answers, fed-none}
 

@@ -2,10 +2,10 @@
 -- text is; and that reader and printer are inverse.
 -- Assumes nothing.
 use mathlib.Core.Path.{_≡_, refl, sym, ap, _∙_}
-use mathlib.Core.Bool.{Bool, true, false, _&&_, and-false}
+use mathlib.Core.Bool.{true, false, and-false}
 use mathlib.Core.List.{List, [], _∷_, _++_, append-nil}
 use mathlib.Core.Logic.{_⊎_, ⊎-elim}
-use Prim.Native.Nat.{ℕ, zero, suc, _+_, _-_, _*_, _/_, _%_, _^_, _<_, _≤_}
+use Prim.Native.Nat.{ℕ, zero, suc, _+_, _*_, _/_, _%_, _^_, _<_, _≤_}
 use native.Mathlib.Nat.{not-suc-le-zero, pow-suc}
 use native.Mathlib.Numerals.{add-one}
 use native.Mathlib.Omega.{arith}
@@ -13,7 +13,7 @@ use borrow.Author.Tests.{lt-ltb, le-ltb, le-leb, ne-eqb, ltb-true, ltb-false, le
 use lib.Dec.{leb, ltb, eqb}
 use lib.ListN.{length, getD, drop, take, length-append, length-take, drop-of-length-le, List·getD-append}
 use lib.Seq.{drop-cons, getD-take, take-all, append-snoc}
-use Rattle.base.specs.Words.{pick, every}
+use Rattle.base.specs.Words.{every}
 use Rattle.base.proofs.Tests.{by-cases, both-left, both-right, both-true, neither-right, true-false}
 use Rattle.base.proofs.Every.{bound-below}
 use Rattle.text.specs.Text.{leading, digit}

@@ -2,12 +2,11 @@
 -- Assumes nothing.
 use borrow.Author.Needs.{needs}
 use native.Mathlib.Omega.{arith}
-use mathlib.Core.Path.{_≡_, refl, sym, ap, _∙_}
-use mathlib.Core.List.{List, [], _++_}
-use Prim.Native.Nat.{ℕ, _+_, _-_, _<_, _≤_}
-use lib.ListN.{length, take, drop, length-take}
+use mathlib.Core.Path.{_≡_, refl, _∙_}
+use Prim.Native.Nat.{_-_, _≤_}
+use lib.ListN.{length, take, length-take}
 use Rattle.text.specs.Text.{buffer}
-use Rattle.tape.specs.Answer.{Shown, setupOf, shownIn, lineAnswer}
+use Rattle.tape.specs.Answer.{Shown, setupOf}
 use Rattle.tape.specs.Tape.{keptLimit, kept, state, stateOf}
 use Rattle.tape.proofs.TapeLaws.{Sofar, sofar-start, sofar-done, end-within, turn-stop, turn-line, stops, goes}
 use Rattle.tape.proofs.chunk.feed_lines.Statement.{statement}
