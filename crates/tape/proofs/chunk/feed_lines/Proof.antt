@@ -2,12 +2,13 @@
 -- Assumes nothing.
 use borrow.Author.Needs.{needs}
 use native.Mathlib.Omega.{arith}
-use mathlib.Core.Path.{_≡_, refl, _∙_}
+use mathlib.Core.Path.{_≡_, refl, ap, _∙_}
 use Prim.Native.Nat.{_-_, _≤_}
 use lib.ListN.{length, take, length-take}
 use Rattle.text.specs.Text.{buffer}
 use Rattle.tape.specs.Answer.{Shown, setupOf}
-use Rattle.tape.specs.Tape.{keptLimit, kept, state, stateOf}
+use Rattle.tape.specs.declared.Feed.{Feed}
+use Rattle.tape.specs.Tape.{keptLimit, state, stateOf, takenBy}
 use Rattle.tape.proofs.TapeLaws.{Sofar, sofar-start, sofar-done, end-within, turn-stop, turn-line, stops, goes}
 use Rattle.tape.proofs.chunk.feed_lines.Statement.{statement}
 use Rattle.tape.proofs.chunk.feed_lines.Tie as tie
@@ -54,7 +55,8 @@ returns c =
     let k = c .before .before .before .keep in
     let w : length (take (l .begun) (l .line)) ≤ keptLimit = simp length-take (omega (arith, l .inv .4)) in
     let h = stops (e .result) (length (a .chunk .now)) (t .before .room .result) (length (l .out) - l .p .at) (t .before .room .ensures) (t .if1 .taken) in
-    turn-stop (stateOf (a .tape) (a .line .now) (a .eeprom .now) (a .id .now)) (a .chunk .now) (buffer (a .out .now) (a .at)) (l .from)
+    ap (λ (f : Feed). takenBy f (k .last .1 .0) (l .eeprom) (l .id) (l .out)) (c .feed-of .ensures)
+    ∙ turn-stop (stateOf (a .tape) (a .line .now) (a .eeprom .now) (a .id .now)) (a .chunk .now) (buffer (a .out .now) (a .at)) (l .from)
     (setupOf (l .p .part) (l .p .device) (l .eeprom) (l .id)) (take (l .begun) (l .line)) (buffer (l .out) (l .p .at)) w (l .inv .5) (e .result) (e .ensures) h
     (take (k .result) (k .last .1 .0)) (k .ensures .0)
 
@@ -119,7 +121,8 @@ returns-2 : tie.Need-returns-2 Inv-loop μ-loop
 returns-2 c =
     let l = c .before .before .loop in
     let a = c .before .before .before .before .before .before .before .before .before .args in
-    sofar-done (stateOf (a .tape) (a .line .now) (a .eeprom .now) (a .id .now)) (a .chunk .now) (buffer (a .out .now) (a .at)) (l .from)
+    ap (λ (f : Feed). takenBy f (l .line) (l .eeprom) (l .id) (l .out)) (c .feed-of2 .ensures)
+    ∙ sofar-done (stateOf (a .tape) (a .line .now) (a .eeprom .now) (a .id .now)) (a .chunk .now) (buffer (a .out .now) (a .at)) (l .from)
     (state (setupOf (l .p .part) (l .p .device) (l .eeprom) (l .id)) (take (l .begun) (l .line))) (buffer (l .out) (l .p .at)) (c .before .loop-test .left) (l .inv .5)
 
 pub feed-lines-spec : {M : Type 1} → statement M
@@ -135,6 +138,7 @@ feed-lines-spec =
     part-keep-start
     part-keep-end
     keep-requires
+    (λ c κs. search needs)
     (λ c. c .before .before .before .keep .kept .1 .0 ∙ c .before .before .before .before .before .before .before .before .before .before .loop .inv .0)
     (λ c. c .before .before .before .before .before .before .before .before .before .before .loop .inv .1)
     (λ c. c .before .before .before .before .before .before .before .before .before .before .loop .inv .2)
@@ -147,6 +151,7 @@ feed-lines-spec =
     add-from
     loop-less
     loop-again
+    (λ c κs. search needs)
     (λ c. c .before .before .loop .inv .0)
     (λ c. c .before .before .loop .inv .1)
     (λ c. c .before .before .loop .inv .2)
