@@ -3,7 +3,7 @@
 use Prim.Native.Nat.{ℕ, max, _/_, _%_, _^_, _<_}
 use native.Mathlib.Omega.{arith}
 use mathlib.Core.Path.{_≡_, refl, sym, ap, _∙_}
-use mathlib.Core.Bool.{Bool, true, false, _||_, Bool·beq, false≢true}
+use mathlib.Core.Bool.{Bool, true, false, _||_, Bool·beq, false≢true, or-comm}
 use mathlib.Core.List.{List, [], _∷_}
 use lib.Dec.{eqb}
 use lib.Bits.{bitOr, or-step, or-shr, or-add-and, and-le-l}
@@ -30,16 +30,10 @@ load-empty load v =
     }
 
 -- one offset more in the set, and its byte
-swap : (a b : Bool) → (a || b) ≡ (b || a)
-swap true true = refl
-swap true false = refl
-swap false true = refl
-swap false false = refl
-
 more-set : (s n k : ℕ) → n < 8 → k < 8 → bit (bitOr s (2 ^ (n % 8))) k ≡ eqb k n || bit s k
 more-set s n k hn hk =
     let e : n % 8 ≡ n = omega arith in
-    rw e (or-bit s (2 ^ n) k ∙ ap (λ (b : Bool). bit s k || b) (power-bit n k hn hk) ∙ swap (bit s k) (eqb k n))
+    rw e (or-bit s (2 ^ n) k ∙ ap (λ (b : Bool). bit s k || b) (power-bit n k hn hk) ∙ or-comm (bit s k) (eqb k n))
 
 more-byte :
     (bytes : List ℕ) (s n k v old : ℕ) → n < 8 → k < 8 → length bytes ≡ 8 → (bit s k ≡ true → old ≡ getD bytes k 0)

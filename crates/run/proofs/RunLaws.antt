@@ -1,10 +1,11 @@
--- What follows for every run from fresh: no act of it is answered 4, 6 or 7, and its record stays in range.
+-- What follows for every run from fresh: no act of it is answered 4, 6 or 7, and its record stays in range. And two lists of acts run as
+-- their join does, on any chip.
 -- Assumes nothing.
 use Prim.Native.Nat.{ℕ}
 use mathlib.Core.Path.{_≡_, refl, sym, ap, _∙_}
 use mathlib.Core.Bool.{Bool, true, false, _||_}
 use mathlib.Core.Logic.{_≢_}
-use mathlib.Core.List.{List}
+use mathlib.Core.List.{List, [], _∷_, _++_}
 use borrow.Author.Tests.{eqb-false}
 use lib.Dec.{eqb}
 use Rattle.base.specs.Words.{pick}
@@ -15,13 +16,27 @@ use Rattle.record.specs.Part.{isPart}
 use Rattle.refusals.specs.InRange.{InRange}
 use Rattle.device.specs.World.{World}
 use Rattle.acts.specs.Act.{Outcome, accepted, refused, refusalIn, performed}
-use Rattle.ledger.specs.State.{start}
+use Rattle.ledger.specs.State.{Step, start}
 use Rattle.ledger.specs.Steps.{ledgerRun}
-use Rattle.run.specs.Claim.{Input, ourChip, worldAfter, fed, freshWorld}
+use Rattle.run.specs.Claim.{Input, Chip, ourChip, worldAfter, fed, stepOf, freshWorld}
 use Rattle.run.proofs.Agree.{Agree}
 use Rattle.run.proofs.FreshAgrees.{fresh-agrees}
 use Rattle.run.proofs.Refused.{never}
 use Rattle.run.proofs.DemandThree.{run-agrees}
+
+-- two lists of acts
+module _ (chip : Chip) (part : ℕ) where
+  pub after-append : (xs ys : List Input) (w : World) → worldAfter chip part (xs ++ ys) w ≡ worldAfter chip part ys (worldAfter chip part xs w)
+  unfolding worldAfter
+  after-append [] ys w = refl
+  after-append (x ∷ xs) ys w = after-append xs ys (chip part (x .act) (x .number) w .after)
+
+  pub fed-append : (xs ys : List Input) (w : World) → fed chip part (xs ++ ys) w ≡ fed chip part xs w ++ fed chip part ys (worldAfter chip part xs w)
+  unfolding worldAfter fed
+  fed-append [] ys w = refl
+  fed-append (x ∷ xs) ys w =
+      let o = chip part (x .act) (x .number) w in
+      ap (λ (s : List Step). stepOf x o ∷ s) (fed-append xs ys (o .after))
 
 -- the chip after any list of acts
 abbrev pub reached : ℕ → List Input → World

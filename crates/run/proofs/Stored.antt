@@ -61,32 +61,32 @@ pub still-of : (y : Cycle) (load : Load) (c : ledger.Cycle) → CycleAgrees y lo
 still-of y load c g h = le-ltb 0 (c .left) (omega (arith, g .left))
 
 module _ (y : Cycle) (load : Load) (c : ledger.Cycle) (g : CycleAgrees y load c) (mask : ℕ) where
+  cut-case :
+      {A B : Type 0} (P : A → B → Type 0) (a s : A) (b t : B) → P a b → (TargetAgrees (y .target) load c → P s t)
+      → P (pick (eqb (y .left) 0) a s) (pick (ltb 0 (c .left)) t b)
+  cut-case P a s b t h k =
+      by-cases (eqb (y .left) 0) (λ e. rw (e, still-of y load c g (eqb-true (y .left) 0 e)) h)
+      (λ e.
+      let p : 0 < y .left = omega (arith, eqb-false (y .left) 0 e) in
+      rw (e, running-of y load c g p) (k (g .target p)))
+
   pub cut-eeprom :
       (n : ℕ) (before : ℕ → ℕ) (m : List ℕ) (es : List Entry) → pageOf (eepromIn (y .target)) + 8 ≤ length m → Holds n before eeprom m es
       → Holds n before eeprom (pick (eqb (y .left) 0) m (eepromAfter load mask m (y .target))) (entriesAfter mask c es)
   unfolding entriesAfter
   cut-eeprom n before m es fits h =
-      by-cases (eqb (y .left) 0) (λ e. rw (e, still-of y load c g (eqb-true (y .left) 0 e)) h)
-      (λ e.
-      let p : 0 < y .left = omega (arith, eqb-false (y .left) 0 e) in
-      rw (e, running-of y load c g p) (target-eeprom n before load mask (y .target) c m es (g .target p) fits h))
+      cut-case (Holds n before eeprom) m _ es _ h (λ r. target-eeprom n before load mask (y .target) c m es r fits h)
 
   pub cut-id :
       (n : ℕ) (before : ℕ → ℕ) (m : List ℕ) (es : List Entry) → pageOf (idIn (y .target)) + 8 ≤ length m → Holds n before id m es
       → Holds n before id (pick (eqb (y .left) 0) m (idAfter load mask m (y .target))) (entriesAfter mask c es)
   unfolding entriesAfter
   cut-id n before m es fits h =
-      by-cases (eqb (y .left) 0) (λ e. rw (e, still-of y load c g (eqb-true (y .left) 0 e)) h)
-      (λ e.
-      let p : 0 < y .left = omega (arith, eqb-false (y .left) 0 e) in
-      rw (e, running-of y load c g p) (target-id n before load mask (y .target) c m es (g .target p) fits h))
+      cut-case (Holds n before id) m _ es _ h (λ r. target-id n before load mask (y .target) c m es r fits h)
 
   pub cut-bp :
       (old : Protection) (bp : ℕ) → bp ≡ protectionNumber old
       → bpAfter mask c bp ≡ protectionNumber (pick (eqb (y .left) 0) old (protectionAfter mask old (y .target)))
   unfolding bpAfter
   cut-bp old bp q =
-      by-cases (eqb (y .left) 0) (λ e. rw (e, still-of y load c g (eqb-true (y .left) 0 e)) q)
-      (λ e.
-      let p : 0 < y .left = omega (arith, eqb-false (y .left) 0 e) in
-      rw (e, running-of y load c g p) (target-bp load mask old (y .target) c bp (g .target p) q))
+      cut-case (λ (p : Protection) (b : ℕ). b ≡ protectionNumber p) old _ bp _ q (λ r. target-bp load mask old (y .target) c bp r q)

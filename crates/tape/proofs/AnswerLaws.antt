@@ -1,28 +1,26 @@
 -- Laws of a line's answer as the code shows it: a refused line, a fresh chip, an act's outcome; and of the part of a lent EEPROM.
 -- Assumes nothing.
-use mathlib.Core.Path.{_≡_, refl, sym, ap, _∙_}
-use mathlib.Core.Bool.{Bool, true, false, not, _||_}
-use mathlib.Core.List.{List, [], _∷_, _++_}
+use mathlib.Core.Path.{_≡_, refl, ap, _∙_}
+use mathlib.Core.Bool.{Bool, false, not, _||_}
+use mathlib.Core.List.{List, _∷_}
 use Prim.Native.Nat.{ℕ, zero, suc, _+_, _%_, _≤_}
 use native.Mathlib.Nat.{not-suc-le-zero, le-of-suc-le-suc}
 use native.Mathlib.Omega.{arith}
 use lib.Dec.{eqb}
-use lib.ListN.{length, take, drop, replicate}
-use lib.Seq.{take-at}
+use lib.ListN.{take, replicate}
 use Rattle.base.proofs.Tests.{pick-case, pick-same}
 use Rattle.record.specs.declared.Act.{Act}
 use Rattle.record.specs.declared.Device.{Device}
-use Rattle.record.specs.declared.Reply.{Reply}
 use Rattle.record.specs.declared.Reply.the-variants.{Off}
-use Rattle.record.specs.Part.{sizeOf, topOf, idSize}
+use Rattle.record.specs.Part.{sizeOf, idSize}
 use Rattle.record.specs.Fresh.{fresh}
-use Rattle.device.specs.World.{World, world}
+use Rattle.device.specs.World.{world}
 use Rattle.block.specs.Lines.{irqLow, wdoLow}
 use Rattle.acts.specs.declared.Answer.{Answer}
-use Rattle.acts.specs.Act.{Outcome, answered}
-use Rattle.text.specs.Text.{Buffer, buffer, append}
+use Rattle.acts.specs.Act.{answered}
+use Rattle.text.specs.Text.{Buffer, append}
 use Rattle.text.specs.Print.{Out, z, counts, outOf, answerLine}
-use Rattle.tape.specs.Answer.{Setup, setup, setupOf, freshSetup, Answered, answer, refusedLine, outcomeAnswer, answerText, Shown, shownIn, eepromRoom}
+use Rattle.tape.specs.Answer.{setup, setupOf, freshSetup, answer, refusedLine, outcomeAnswer, answerText, Shown, shownIn, eepromRoom}
 
 -- a part's EEPROM is within the lent bytes
 pub size-within : (part : ℕ) → sizeOf part ≤ eepromRoom

@@ -2,14 +2,12 @@
 -- are those that it used; so the memories are the ledger's.
 -- Assumes nothing.
 use mathlib.Core.Path.{_≡_, refl, sym, ap, subst, _∙_}
-use mathlib.Core.Bool.{Bool, true, false, true≢false, false≢true}
+use mathlib.Core.Bool.{true, false, true≢false}
 use mathlib.Core.List.{List, [], _∷_, _++_}
-use Prim.Native.Nat.{ℕ, _<_, _≤_}
-use native.Mathlib.Omega.{arith}
-use borrow.Author.Tests.{leb-true, ne-eqb, eqb-true}
-use lib.Dec.{leb, eqb}
+use Prim.Native.Nat.{ℕ}
+use lib.Dec.{eqb}
 use Rattle.base.specs.Words.{pick}
-use Rattle.base.proofs.Tests.{by-cases, yes, no, pick-when, both-left}
+use Rattle.base.proofs.Tests.{by-cases, yes, no, pick-when}
 use Rattle.record.specs.declared.Act.{Act}
 use Rattle.record.specs.declared.Act.the-variants.{Select, Byte, End, Wait, Cut, Up}
 use Rattle.record.specs.Part.{isPart}
@@ -18,15 +16,16 @@ use Rattle.acts.specs.Act.{Outcome, performed, refusalIn, accepted, refused}
 use Rattle.ledger.specs.State.{Step, start}
 use Rattle.ledger.specs.Steps.{ledgerRun}
 use Rattle.run.specs.Claim.{Input, ourChip, worldAfter, fed, freshWorld, named, usedBy, Accounted, DemandThree}
-use Rattle.run.specs.Claim.{stepOf as runStep}
 use Rattle.run.proofs.DemandThree.{demand-three}
+use Rattle.run.proofs.PartLaws.{part-cases}
+use Rattle.run.proofs.RunLaws.{after-append, fed-append}
 use Rattle.text.specs.declared.Request.{Request}
 use Rattle.text.specs.declared.Request.the-variants.{PartLine, ActLine, Bad}
 use Rattle.text.specs.Request.{requestOf}
-use Rattle.text.specs.Print.{Out, shown, z, outOf, counts, replyOut}
+use Rattle.text.specs.Print.{shown, z, outOf}
 use Rattle.tape.specs.Answer.{Setup, setup, noPart, Answered, answer, refusedLine, outcomeAnswer, freshSetup, requestAnswer, lineAnswer}
 use Rattle.tape.specs.Tape.{linesFrom}
-use Rattle.tape.specs.Steps.{setupAfter, ticksOf, ticksPrinted, stepOf, stepsFrom, TapeAccounted, leftAfter, BytesAccounted}
+use Rattle.tape.specs.Steps.{setupAfter, ticksOf, ticksPrinted, stepOf, stepsFrom, TapeAccounted, BytesAccounted}
 use Rattle.tape.proofs.WholeLaws.{setup-lines}
 
 -- the acts that lines name
@@ -81,24 +80,13 @@ module _ (part : ℕ) (some : eqb part 0 ≡ false) where
   line-fed Bad w = refl
 
   -- and so do lines
-  after-join : (xs ys : List Input) (w : World) → worldAfter ourChip part (xs ++ ys) w ≡ worldAfter ourChip part ys (worldAfter ourChip part xs w)
-  unfolding worldAfter
-  after-join [] ys w = refl
-  after-join (x ∷ xs) ys w = after-join xs ys (ourChip part (x .act) (x .number) w .after)
-
-  fed-join : (xs ys : List Input) (w : World) → fed ourChip part (xs ++ ys) w ≡ fed ourChip part xs w ++ fed ourChip part ys (worldAfter ourChip part xs w)
-  unfolding worldAfter fed
-  fed-join [] ys w = refl
-  fed-join (x ∷ xs) ys w =
-      ap (λ (s : List Step). runStep x (ourChip part (x .act) (x .number) w) ∷ s) (fed-join xs ys (ourChip part (x .act) (x .number) w .after))
-
   lines-setup : (lines : List (List ℕ)) (w : World) → setupAfter (setup part w) lines ≡ setup part (worldAfter ourChip part (actsOf lines) w)
   unfolding setupAfter actsOf lineAnswer worldAfter
   lines-setup [] w = refl
   lines-setup (line ∷ lines) w =
       ap (λ (s : Setup). setupAfter s lines) (line-setup (requestOf line) w)
       ∙ lines-setup lines (worldAfter ourChip part (inputOf (requestOf line)) w)
-      ∙ ap (setup part) (sym (after-join (inputOf (requestOf line)) (actsOf lines) w))
+      ∙ ap (setup part) (sym (after-append ourChip part (inputOf (requestOf line)) (actsOf lines) w))
 
   lines-fed : (lines : List (List ℕ)) (w : World) → stepsFrom (setup part w) lines ≡ fed ourChip part (actsOf lines) w
   unfolding stepsFrom actsOf lineAnswer fed
@@ -108,14 +96,14 @@ module _ (part : ℕ) (some : eqb part 0 ≡ false) where
       ap (λ (x : List Step). x ++ stepsFrom (requestAnswer r (setup part w) .after) lines) (line-fed r w)
       ∙ ap (λ (s : Setup). fed ourChip part (inputOf r) w ++ stepsFrom s lines) (line-setup r w)
       ∙ ap (λ (x : List Step). fed ourChip part (inputOf r) w ++ x) (lines-fed lines (worldAfter ourChip part (inputOf r) w))
-      ∙ sym (fed-join (inputOf r) (actsOf lines) w)
+      ∙ sym (fed-append ourChip part (inputOf r) (actsOf lines) w)
 
 -- a tape's claim of a setup and the steps that its lines feed
 abbrev Owes : Setup → List Step → Type 0
 Owes s steps = noPart s ≡ false → Accounted (s .part) (s .chip) (ledgerRun (s .part) steps start)
 
 is-some : (n : ℕ) → isPart n ≡ true → eqb n 0 ≡ false
-is-some n e = ne-eqb n 0 (λ q. let h : 1 ≤ n = leb-true 1 n (both-left (leb 1 n) (leb n 4) e) in omega arith)
+is-some = part-cases (λ (n : ℕ). eqb n 0 ≡ false) refl refl refl refl
 
 -- from an accepted part on
 fresh-owes : (n : ℕ) → isPart n ≡ true → (lines : List (List ℕ)) → Owes (setupAfter (freshSetup n) lines) (stepsFrom (freshSetup n) lines)

@@ -1,33 +1,32 @@
 -- Laws of a tape as bytes: two chunks answer as their join does; bytes that end no line are kept; what is kept of a line answers as the
--- whole line; a whole tape answers line by line, whatever lies in the memories before its part.
+-- whole line; how far a chunk has been answered, from one line to the next.
 -- Assumes nothing.
 use mathlib.Core.Path.{_≡_, refl, sym, ap, subst, _∙_}
 use mathlib.Core.Logic.{_⊎_, inl, inr, ⊎-elim}
-use mathlib.Core.Bool.{Bool, true, false, not, _&&_, _||_}
+use mathlib.Core.Bool.{true, false, _&&_, _||_}
 use mathlib.Core.List.{List, [], _∷_, _++_, append-nil, append-assoc}
-use Prim.Native.Nat.{ℕ, zero, suc, _+_, _-_, _<_, _≤_}
-use native.Mathlib.Nat.{suc-ne-zero, suc-inj, sub-zero, suc-add, zero-add, add-zero, add-assoc}
+use Prim.Native.Nat.{ℕ, suc, _+_, _-_, _<_, _≤_}
+use native.Mathlib.Nat.{sub-zero, suc-add, zero-add, add-zero, add-assoc}
 use native.Mathlib.Omega.{arith}
-use borrow.Author.Tests.{lt-ltb, le-ltb, le-leb, lt-leb, leb-true, leb-false, ltb-true, ltb-false, eqb-true, eqb-false, eq-eqb, ne-eqb, not-true, not-false}
+use borrow.Author.Tests.{lt-ltb, le-ltb, leb-true, leb-false, ltb-true, ltb-false, eqb-true, eqb-false, eq-eqb, ne-eqb, not-true, not-false}
 use lib.Dec.{leb, ltb, eqb}
 use lib.ListN.{length, take, drop, getD, set, length-append, length-take, length-drop, drop-of-length-le, take-append-drop}
 use native.Mathlib.Numerals.{add-one}
 use lib.Seq.{take-all, take-suc, take-suc-set, drop-cons, getD-drop, length-sets, take-append-le, take-take, take-add, drop-drop, length-take-le, append-snoc}
-use Rattle.base.specs.Words.{pick}
 use Rattle.base.proofs.Tests.{by-cases, yes, no, either, both-left, both-right, neither-left, neither-right}
 use Rattle.record.specs.Part.{idSize}
 use Rattle.text.specs.declared.Request.{Request}
 use Rattle.text.specs.declared.Request.the-variants.{Bad}
-use Rattle.text.specs.Text.{leading, Buffer, buffer, append}
-use Rattle.text.specs.Line.{lineLimit, tooLong}
+use Rattle.text.specs.Text.{leading, Buffer, append}
+use Rattle.text.specs.Line.{lineLimit}
 use Rattle.text.specs.Request.{requestOf}
 use Rattle.text.specs.Print.{newline, answerRoom}
-use Rattle.text.proofs.TextLaws.{leading-taken, leading-ends, leading-within, append-none, append-join}
-use Rattle.tape.specs.Answer.{Setup, setup, Answered, requestAnswer, lineAnswer, answerText, Shown, shownIn, eepromRoom}
-use Rattle.tape.specs.Tape.{linesFrom, answersTo, tapeAnswers, emptySetup, State, state, kept, keptLimit, Fed, fedTo, ended, fedByte, after, fed, finished, plain, takenWithin, Taken, putInto, roomIn, feedInto, buffersFit}
+use Rattle.text.proofs.TextLaws.{leading-first, leading-rest, leading-taken, leading-ends, leading-within, append-none, append-join}
+use Rattle.tape.specs.Answer.{Setup, requestAnswer, lineAnswer, Shown, shownIn, eepromRoom}
+use Rattle.tape.specs.Tape.{State, state, kept, keptLimit, Fed, fedTo, ended, fedByte, after, fed, finished, plain, takenWithin, Taken, putInto, roomIn, feedInto, buffersFit}
 
 -- two chunks answer as their join does
-after-join : (a b : List ℕ) (f : Fed) → after a (after b f) ≡ after (a ++ b) f
+pub after-join : (a b : List ℕ) (f : Fed) → after a (after b f) ≡ after (a ++ b) f
 after-join a b f = ap (fedTo (f .after)) (sym (append-assoc a b (f .answers)))
 
 pub fed-join : (s : State) (a b : List ℕ) → fed s (a ++ b) ≡ after (fed s a .answers) (fed (fed s a .after) b)
@@ -66,39 +65,34 @@ unfolding lineAnswer
 kept-answers l s = ap (λ (r : Request). requestAnswer r s) (kept-asks l)
 
 -- bytes that end no line
+plain-first : (x : ℕ) (p : List ℕ) → leading plain (x ∷ p) ≡ length (x ∷ p) → eqb x newline ≡ false
+plain-first x p e = not-true (eqb x newline) (leading-first plain x p e)
+
 pub fed-plain :
     (p : List ℕ) (s : Setup) (b : List ℕ) → leading plain p ≡ length p → fed (state s (kept b)) p ≡ fedTo (state s (kept (b ++ p))) []
-unfolding fed leading
+unfolding fed
 fed-plain [] s b e = ap (λ (l : List ℕ). fedTo (state s (kept l)) []) (sym (append-nil b))
 fed-plain (x ∷ p) s b e =
-    by-cases (eqb x newline)
-    (λ t. absurd (suc-ne-zero (length p) (sym (simp t at e))))
-    (λ t.
-    let r : leading plain p ≡ length p = suc-inj (simp t at e) in
-    simp t
+    simp (plain-first x p e)
     (ap (λ (l : List ℕ). after [] (fed (state s l) p)) (kept-join b (x ∷ []))
-    ∙ ap (after []) (fed-plain p s (b ++ (x ∷ [])) r)
-    ∙ ap (λ (l : List ℕ). fedTo (state s (kept l)) []) (append-snoc b x p)))
+    ∙ ap (after []) (fed-plain p s (b ++ (x ∷ [])) (leading-rest plain x p e))
+    ∙ ap (λ (l : List ℕ). fedTo (state s (kept l)) []) (append-snoc b x p))
 
 -- how many bytes are taken: those that end no line, a line's end with room and without
 pub taken-plain :
     (p r : List ℕ) (room : ℕ) (s : Setup) (b : List ℕ) → leading plain p ≡ length p
     → takenWithin room (state s (kept b)) (p ++ r) ≡ length p + takenWithin room (state s (kept (b ++ p))) r
-unfolding takenWithin leading
+unfolding takenWithin
 taken-plain [] r room s b e =
     ap (λ (l : List ℕ). takenWithin room (state s (kept l)) r) (sym (append-nil b)) ∙ sym (zero-add (takenWithin room (state s (kept (b ++ []))) r))
 taken-plain (x ∷ p) r room s b e =
-    by-cases (eqb x newline)
-    (λ t. absurd (suc-ne-zero (length p) (sym (simp t at e))))
-    (λ t.
-    let q : leading plain p ≡ length p = suc-inj (simp t at e) in
-    simp t
+    simp (plain-first x p e)
     (ap suc
     (ap (λ (n : ℕ). takenWithin n (state s (kept (kept b ++ (x ∷ [])))) (p ++ r)) (sub-zero room)
     ∙ ap (λ (l : List ℕ). takenWithin room (state s l) (p ++ r)) (kept-join b (x ∷ []))
-    ∙ taken-plain p r room s (b ++ (x ∷ [])) q
+    ∙ taken-plain p r room s (b ++ (x ∷ [])) (leading-rest plain x p e)
     ∙ ap (λ (l : List ℕ). length p + takenWithin room (state s (kept l)) r) (append-snoc b x p))
-    ∙ sym (suc-add (length p) (takenWithin room (state s (kept (b ++ (x ∷ p)))) r))))
+    ∙ sym (suc-add (length p) (takenWithin room (state s (kept (b ++ (x ∷ p)))) r)))
 
 pub taken-room :
     (r : List ℕ) (room : ℕ) (s : State) → answerRoom ≤ room
@@ -380,8 +374,11 @@ stops end n room left q e =
     (either (eqb end n) (ltb room answerRoom) e)
 
 pub goes :
-    (end n room left : ℕ) → end ≤ n → room ≡ left → (eqb end n || ltb room answerRoom) ≡ false → (end < n) × (answerRoom ≤ left)
-goes end n room left h q e =
+    (chunk : List ℕ) (from end room left : ℕ) → from ≤ length chunk → end ≡ from + pieceSize chunk from → room ≡ left
+    → (eqb end (length chunk) || ltb room answerRoom) ≡ false → (from ≤ end) × (end < length chunk) × (answerRoom ≤ left)
+goes chunk from end room left h p q e =
+    let n = length chunk in
+    let w = end-within chunk from end h p in
     let d : end ≡ n → ⊥ = eqb-false end n (neither-left (eqb end n) (ltb room answerRoom) e) in
     let r : answerRoom ≤ room = ltb-false room answerRoom (neither-right (eqb end n) (ltb room answerRoom) e) in
-    (omega arith, omega arith)
+    (w .0, omega (arith, w .1), omega arith)

@@ -3,13 +3,12 @@
 -- Assumes nothing.
 use mathlib.Core.Path.{_≡_, refl, sym, ap, _∙_}
 use mathlib.Core.Bool.{Bool, true, false, _&&_, and-false}
-use mathlib.Core.List.{List, [], _∷_, _++_, append-nil, append-assoc}
-use Prim.Native.Nat.{ℕ, zero, suc, _+_, _-_, _<_, _≤_, suc-le-suc}
-use native.Mathlib.Nat.{not-suc-le-zero}
+use mathlib.Core.List.{List, [], _∷_, _++_, append-nil}
+use Prim.Native.Nat.{ℕ, suc, _+_, _-_, _<_, _≤_, suc-le-suc}
 use native.Mathlib.Omega.{arith}
-use borrow.Author.Tests.{le-ltb, eqb-true, eq-eqb, ne-eqb}
+use borrow.Author.Tests.{le-ltb, ne-eqb}
 use lib.Dec.{ltb, eqb}
-use lib.ListN.{length, take, length-append}
+use lib.ListN.{length, length-append}
 use Rattle.base.specs.Words.{pick}
 use Rattle.base.proofs.Tests.{by-cases, yes, no, pick-case}
 use Rattle.record.specs.Part.{isPart}
@@ -19,23 +18,22 @@ use Rattle.text.specs.declared.Request.the-variants.{PartLine, ActLine, Bad}
 use Rattle.text.specs.Request.{requestOf}
 use Rattle.text.specs.Print.{newline, answerRoom, z}
 use Rattle.tape.specs.Answer.{Setup, setup, Answered, answer, refusedLine, freshSetup, requestAnswer, lineAnswer, answerText}
-use Rattle.tape.specs.Tape.{lastLine, linesFrom, answersTo, tapeAnswers, emptySetup, State, state, kept, keptLimit, Fed, fedTo, ended, fedByte, after, fed, finished, answersFrom, takenWithin}
+use Rattle.tape.specs.Tape.{lastLine, linesFrom, answersTo, tapeAnswers, emptySetup, State, state, kept, Fed, fedTo, ended, fedByte, after, fed, finished, answersFrom, takenWithin}
 use Rattle.tape.specs.Steps.{setupAfter}
-use Rattle.tape.proofs.TapeLaws.{kept-join, kept-answers, fed-none}
+use Rattle.tape.proofs.TapeLaws.{after-join, kept-join, kept-answers, fed-none}
+
+-- what lines answer, and what is left after them
+abbrev linesFed : Setup → List (List ℕ) → Fed
+linesFed s lines = fedTo (state (setupAfter s lines) []) (answersTo s lines)
 
 -- the end of a tape answers its last line
-last-answers : (s : Setup) (b : List ℕ) → finished (state s (kept b)) .answers ≡ answersTo s (lastLine b)
-unfolding finished answersTo
-last-answers s [] = refl
-last-answers s (c ∷ b) =
-    simp (ne-eqb (suc (length (take 64 b))) 0 (λ e. omega arith))
-    (ap answerText (kept-answers (c ∷ b) s) ∙ sym (append-nil (answerText (lineAnswer (c ∷ b) s))))
-
-last-setup : (s : Setup) (b : List ℕ) → finished (state s (kept b)) .after .setup ≡ setupAfter s (lastLine b)
-unfolding finished setupAfter
-last-setup s [] = refl
-last-setup s (c ∷ b) =
-    simp (ne-eqb (suc (length (take 64 b))) 0 (λ e. omega arith)) (ap (λ (a : Answered). a .after) (kept-answers (c ∷ b) s))
+last-fed : (s : Setup) (b : List ℕ) → finished (state s (kept b)) ≡ linesFed s (lastLine b)
+unfolding finished setupAfter answersTo
+last-fed s [] = refl
+last-fed s (c ∷ b) =
+    sym (no _ _ (ne-eqb (length (kept (c ∷ b))) 0 (λ e. omega arith)))
+    ∙ ap (λ (a : Answered). fedTo (state (a .after) []) (answerText a)) (kept-answers (c ∷ b) s)
+    ∙ ap (fedTo (state (lineAnswer (c ∷ b) s .after) [])) (sym (append-nil (answerText (lineAnswer (c ∷ b) s))))
 
 lines-none : (b : List ℕ) → lastLine b ≡ linesFrom b []
 unfolding linesFrom
@@ -62,40 +60,32 @@ lines-more : (x : ℕ) (bytes b : List ℕ) → eqb x newline ≡ false → line
 unfolding linesFrom
 lines-more x bytes b t = sym (no _ _ t)
 
-abbrev allOf : Fed → List ℕ
-allOf f = f .answers ++ finished (f .after) .answers
+-- a tape to its end
+abbrev toEnd : Fed → Fed
+toEnd f = after (f .answers) (finished (f .after))
 
-abbrev endOf : Fed → Setup
-endOf f = finished (f .after) .after .setup
-
--- fed byte by byte and ended, a tape answers line by line
-pub answers-lines : (bytes : List ℕ) (s : Setup) (b : List ℕ) → answersFrom (state s (kept b)) bytes ≡ answersTo s (linesFrom b bytes)
-unfolding answersTo
-answers-lines [] s b = ap allOf (fed-none (state s (kept b))) ∙ last-answers s b ∙ ap (answersTo s) (lines-none b)
-answers-lines (x ∷ bytes) s b =
+-- fed byte by byte and ended, a tape answers and leaves what its lines do
+fed-lines : (bytes : List ℕ) (s : Setup) (b : List ℕ) → toEnd (fed (state s (kept b)) bytes) ≡ linesFed s (linesFrom b bytes)
+unfolding setupAfter answersTo
+fed-lines [] s b = ap toEnd (fed-none (state s (kept b))) ∙ last-fed s b ∙ ap (linesFed s) (lines-none b)
+fed-lines (x ∷ bytes) s b =
     by-cases (eqb x newline)
     (λ t.
     let a = lineAnswer (kept b) s in
     let f = fed (state (a .after) []) bytes in
-    ap allOf (fed-end x bytes (state s (kept b)) t)
-    ∙ append-assoc (answerText a) (f .answers) (finished (f .after) .answers)
-    ∙ ap (λ (r : List ℕ). answerText a ++ r) (answers-lines bytes (a .after) [])
-    ∙ ap (λ (y : Answered). answerText y ++ answersTo (y .after) (linesFrom [] bytes)) (kept-answers b s)
-    ∙ ap (answersTo s) (sym (lines-end x bytes b t)))
-    (λ t. ap allOf (fed-more x bytes s b t) ∙ answers-lines bytes s (b ++ (x ∷ [])) ∙ ap (answersTo s) (sym (lines-more x bytes b t)))
+    ap toEnd (fed-end x bytes (state s (kept b)) t)
+    ∙ sym (after-join (answerText a) (f .answers) (finished (f .after)))
+    ∙ ap (after (answerText a)) (fed-lines bytes (a .after) [])
+    ∙ ap (λ (y : Answered). after (answerText y) (linesFed (y .after) (linesFrom [] bytes))) (kept-answers b s)
+    ∙ ap (linesFed s) (sym (lines-end x bytes b t)))
+    (λ t. ap toEnd (fed-more x bytes s b t) ∙ fed-lines bytes s (b ++ (x ∷ [])) ∙ ap (linesFed s) (sym (lines-more x bytes b t)))
+
+pub answers-lines : (bytes : List ℕ) (s : Setup) (b : List ℕ) → answersFrom (state s (kept b)) bytes ≡ answersTo s (linesFrom b bytes)
+answers-lines bytes s b = ap (λ (f : Fed). f .answers) (fed-lines bytes s b)
 
 pub setup-lines :
     (bytes : List ℕ) (s : Setup) (b : List ℕ) → finished (fed (state s (kept b)) bytes .after) .after .setup ≡ setupAfter s (linesFrom b bytes)
-unfolding setupAfter
-setup-lines [] s b = ap endOf (fed-none (state s (kept b))) ∙ last-setup s b ∙ ap (setupAfter s) (lines-none b)
-setup-lines (x ∷ bytes) s b =
-    by-cases (eqb x newline)
-    (λ t.
-    ap endOf (fed-end x bytes (state s (kept b)) t)
-    ∙ setup-lines bytes (lineAnswer (kept b) s .after) []
-    ∙ ap (λ (y : Answered). setupAfter (y .after) (linesFrom [] bytes)) (kept-answers b s)
-    ∙ ap (setupAfter s) (sym (lines-end x bytes b t)))
-    (λ t. ap endOf (fed-more x bytes s b t) ∙ setup-lines bytes s (b ++ (x ∷ [])) ∙ ap (setupAfter s) (sym (lines-more x bytes b t)))
+setup-lines bytes s b = ap (λ (f : Fed). f .after .setup) (fed-lines bytes s b)
 
 -- before a part the chip tells nothing
 same-choice : (g : Answered → List ℕ) (t : Bool) (x y u : Answered) → g y ≡ g u → g (pick t x y) ≡ g (pick t x u)

@@ -2,8 +2,8 @@
 -- 4 B 2K), once; else 7. One refused with 3 does not count." What an act does is not said here: it is the act's definition.
 -- Assumes nothing.
 use Prim.Native.Nat.{ℕ}
-use mathlib.Core.Bool.{Bool, true, false, not, _||_}
-use mathlib.Core.List.{List, [], _∷_}
+use mathlib.Core.Bool.{Bool, not, _||_}
+use mathlib.Core.List.{List}
 use lib.Dec.{eqb}
 use lib.ListN.{take}
 use Rattle.base.specs.Words.{pick}
@@ -18,7 +18,7 @@ use Rattle.text.specs.declared.Request.{Request}
 use Rattle.text.specs.declared.Request.the-variants.{PartLine, ActLine, Bad}
 use Rattle.text.specs.Text.{Buffer, buffer, append}
 use Rattle.text.specs.Request.{requestOf}
-use Rattle.text.specs.Print.{Out, shown, z, counts, outOf, answerLine}
+use Rattle.text.specs.Print.{Out, z, counts, outOf, answerLine}
 use Rattle.tape.specs.declared.Progress.{Progress}
 
 -- the part that was accepted, 0 while there is none, and its chip with the memories

@@ -17,7 +17,7 @@ use Rattle.text.specs.declared.Request.the-variants.{PartLine, ActLine, Bad}
 use Rattle.text.specs.Request.{requestOf}
 use Rattle.text.specs.Print.{Out, shown, z}
 use Rattle.tape.specs.Answer.{Setup, setup, noPart, lineAnswer}
-use Rattle.tape.specs.Tape.{State, state, fed, finished, linesFrom}
+use Rattle.tape.specs.Tape.{state, fed, finished, linesFrom}
 
 -- what is left after lines
 unfoldable pub setupAfter : Setup → List (List ℕ) → Setup

@@ -1,8 +1,8 @@
 -- A tape as bytes: the lines of a byte string and their answers; and the same as it comes, chunk by chunk, with the beginning of a line that
 -- has not ended yet. A line ends at a newline; a last line without one is a line too; an empty line is a line; no input, no answer.
 -- Assumes nothing.
-use Prim.Native.Nat.{ℕ, zero, suc, _+_, _-_}
-use mathlib.Core.Bool.{Bool, true, false, not, _&&_}
+use Prim.Native.Nat.{ℕ, suc, _-_}
+use mathlib.Core.Bool.{Bool, not, _&&_}
 use mathlib.Core.List.{List, [], _∷_, _++_}
 use lib.Dec.{leb, ltb, eqb}
 use lib.ListN.{length, take}

@@ -100,6 +100,22 @@ fn room(n: usize, at: usize) -> usize
     0
 }
 
+// What a chunk gave, of how far the tape has come, the bytes kept of a line and those taken.
+fn feed_of(p: Progress, begun: usize, taken: usize) -> Feed
+    ensures { λ r. ⌜ r ≡ record { tape = record { part = p .part; device = p .device; begun = begun }; taken = taken; at = p .at } ⌝ }
+{
+    let device = p.device;
+    Feed {
+        tape: Tape {
+            part: p.part,
+            device,
+            begun,
+        },
+        taken,
+        at: p.at,
+    }
+}
+
 // A chunk, line by line, where the lent buffers fit.
 fn feed_lines(
     chunk: &[u8],
@@ -126,31 +142,13 @@ fn feed_lines(
         let stops = (end == chunk.len()) | (room(out.len(), p.at) < text::print::ANSWER_ROOM);
         if stops {
             let more = keep(&chunk[from..end], line, begun);
-            let device = p.device;
-            return Feed {
-                tape: Tape {
-                    part: p.part,
-                    device,
-                    begun: more,
-                },
-                taken: end,
-                at: p.at,
-            };
+            return feed_of(p, more, end);
         }
         p = end_line(&chunk[from..end], begun, line, p, eeprom, id, out);
         begun = 0;
         from = end + 1;
     }
-    let device = p.device;
-    Feed {
-        tape: Tape {
-            part: p.part,
-            device,
-            begun,
-        },
-        taken: from,
-        at: p.at,
-    }
+    feed_of(p, begun, from)
 }
 
 // The lent buffers fit, by their lengths.
@@ -203,16 +201,7 @@ fn finish_line(
         at,
     };
     let q = answer::answer_line(&line[..begun], p, eeprom, id, out);
-    let next = q.device;
-    Feed {
-        tape: Tape {
-            part: q.part,
-            device: next,
-            begun: 0,
-        },
-        taken: 0,
-        at: q.at,
-    }
+    feed_of(q, 0, 0)
 }
 
 // The answer to a last line that has no newline. Where a lent buffer does not fit or has no room, nothing is changed.

@@ -1,27 +1,26 @@
 -- Laws of lines: a name's text is that name and no other text is; a line is good exactly where it is the text of a name and a number.
 -- Assumes nothing.
 use mathlib.Core.Path.{_≡_, refl, sym, ap, _∙_}
-use mathlib.Core.Bool.{Bool, true, false, not, _&&_, false≢true, true≢false}
+use mathlib.Core.Bool.{true, false, _&&_, true≢false}
 use mathlib.Core.List.{List, [], _∷_, _++_, append-nil, append-assoc}
-use Prim.Native.Nat.{ℕ, zero, suc, _+_, _<_, _≤_}
-use native.Mathlib.Nat.{suc-ne-zero, suc-inj}
+use Prim.Native.Nat.{ℕ, suc, _<_, _≤_}
+use native.Mathlib.Nat.{suc-ne-zero, suc-inj, add-zero}
 use lib.Seq.{drop-length, take-append-seam, drop-append-seam}
 use native.Mathlib.Omega.{arith}
-use borrow.Author.Tests.{eq-eqb, eqb-true, lt-ltb, le-ltb, ltb-true, ltb-false, not-false}
+use borrow.Author.Tests.{eq-eqb, eqb-true, lt-ltb, le-ltb, ltb-true}
 use lib.Dec.{eqb, ltb}
 use lib.ListN.{length, take, drop, take-append-drop, length-append}
-use Rattle.base.specs.Words.{pick}
 use Rattle.base.proofs.Tests.{by-cases, pick-when, both-left, both-right, both-true, neither-left, neither}
 use Rattle.record.specs.declared.Act.{Act}
 use Rattle.record.specs.declared.Act.the-variants.{Select, Byte, End, Wait, Cut, Up}
 use Rattle.text.specs.declared.Name.{Name}
 use Rattle.text.specs.declared.Name.the-variants.{PartName, ActName, Unknown}
-use Rattle.text.specs.declared.Request.{Request}
 use Rattle.text.specs.declared.Request.the-variants.{PartLine, ActLine, Bad}
 use Rattle.text.specs.Text.{agreed, begins, isWord, leading, letter, digit}
 use Rattle.text.specs.Line.{lineLimit, tooLong, opText, argText, partText, actText, nameSize, nameText, afterOp, afterName, digitsText, inForm, nameOf, textOf}
 use Rattle.text.specs.Number.{digitLimit, needlessZero, tooManyDigits, badDigits, valueOf, decimalText}
 use Rattle.text.specs.Request.{asked, unknownName, requestOf, lineText}
+use Rattle.text.proofs.TextLaws.{leading-append}
 use Rattle.text.proofs.NumberLaws.{value-of-decimal, decimal-of-value, decimal-digits, decimal-some, decimal-needed}
 
 -- a list that agrees with a whole word is the word and the rest
@@ -80,15 +79,7 @@ name-only s =
     pick-when P (isWord (actText Cut) s) (λ t e. is-word (actText Cut) s t)
     (λ f5. pick-when P (isWord (actText Up) s) (λ t e. is-word (actText Up) s t) (λ f6 e. absurd (true≢false e))))))))
 
--- small letters lead up to what follows them
-pub leading-append : (kind : ℕ → Bool) (s t : List ℕ) → leading kind s ≡ length s → leading kind t ≡ 0 → leading kind (s ++ t) ≡ length s
-unfolding leading
-leading-append kind [] t e f = f
-leading-append kind (b ∷ s) t e f =
-    by-cases (kind b)
-    (λ q. simp q (ap suc (leading-append kind s t (suc-inj (simp q at e)) f)))
-    (λ q. absurd (suc-ne-zero (length s) (sym (simp q at e))))
-
+-- a name is small letters
 name-letters : (x : Name) → leading letter (textOf x) ≡ length (textOf x)
 unfolding leading
 name-letters PartName = refl
@@ -202,7 +193,7 @@ module _ (x : Name) (n : ℕ) where
 
   name-size : nameSize (opText ++ (textOf x ++ rest)) ≡ length (textOf x)
   unfolding rest nameSize leading
-  name-size = leading-append letter (textOf x) rest (name-letters x) refl
+  name-size = leading-append letter (textOf x) rest (name-letters x) ∙ add-zero (length (textOf x))
 
   name-text : nameText (opText ++ (textOf x ++ rest)) ≡ textOf x
   name-text = ap (λ (k : ℕ). take k (textOf x ++ rest)) name-size ∙ take-append-seam (textOf x) rest

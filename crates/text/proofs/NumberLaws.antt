@@ -2,22 +2,23 @@
 -- text is; and that reader and printer are inverse.
 -- Assumes nothing.
 use mathlib.Core.Path.{_≡_, refl, sym, ap, _∙_}
-use mathlib.Core.Bool.{Bool, true, false, _&&_, and-false}
+use mathlib.Core.Bool.{true, false, and-false}
 use mathlib.Core.List.{List, [], _∷_, _++_, append-nil}
 use mathlib.Core.Logic.{_⊎_, ⊎-elim}
-use Prim.Native.Nat.{ℕ, zero, suc, _+_, _-_, _*_, _/_, _%_, _^_, _<_, _≤_}
-use native.Mathlib.Nat.{not-suc-le-zero, suc-ne-zero, suc-inj, pow-suc}
+use Prim.Native.Nat.{ℕ, zero, suc, _+_, _*_, _/_, _%_, _^_, _<_, _≤_}
+use native.Mathlib.Nat.{not-suc-le-zero, pow-suc}
 use native.Mathlib.Numerals.{add-one}
 use native.Mathlib.Omega.{arith}
 use borrow.Author.Tests.{lt-ltb, le-ltb, le-leb, ne-eqb, ltb-true, ltb-false, leb-true, eqb-false}
 use lib.Dec.{leb, ltb, eqb}
 use lib.ListN.{length, getD, drop, take, length-append, length-take, drop-of-length-le, List·getD-append}
 use lib.Seq.{drop-cons, getD-take, take-all, append-snoc}
-use Rattle.base.specs.Words.{pick, every}
+use Rattle.base.specs.Words.{every}
 use Rattle.base.proofs.Tests.{by-cases, both-left, both-right, both-true, neither-right, true-false}
 use Rattle.base.proofs.Every.{bound-below}
 use Rattle.text.specs.Text.{leading, digit}
 use Rattle.text.specs.Number.{digitLimit, needlessZero, tooManyDigits, badDigits, digitText, digitValue, valueFrom, valueOf, textWithin, decimalText}
+use Rattle.text.proofs.TextLaws.{leading-first, leading-rest, leading-append}
 
 -- one more digit: what is left gives the same number
 pub value-more :
@@ -138,15 +139,6 @@ decimal-next v d h l =
     let r : (v * 10 + d) % 10 ≡ d = omega arith in
     decimal-more (v * 10 + d) (omega arith) ∙ (λ i. decimalText (q i) ++ (digitText (r i) ∷ []))
 
--- each of a list's bytes is a digit
-pub digits-first : (b : ℕ) (s : List ℕ) → leading digit (b ∷ s) ≡ length (b ∷ s) → digit b ≡ true
-unfolding leading
-digits-first b s e = by-cases (digit b) (λ t. t) (λ f. absurd (suc-ne-zero (length s) (sym (simp f at e))))
-
-pub digits-rest : (b : ℕ) (s : List ℕ) → leading digit (b ∷ s) ≡ length (b ∷ s) → leading digit s ≡ length s
-unfolding leading
-digits-rest b s e = suc-inj (simp (digits-first b s e) at e)
-
 digit-back : (b : ℕ) → digit b ≡ true → digitText (digitValue b) ≡ b
 digit-back b e =
     let l : 48 ≤ b = leb-true 48 b (both-left (leb 48 b) (leb b 57) e) in
@@ -161,8 +153,8 @@ decimal-from : (v : ℕ) (s : List ℕ) → 0 < v → leading digit s ≡ length
 unfolding valueFrom
 decimal-from v [] h e = sym (append-nil (decimalText v))
 decimal-from v (b ∷ s) h e =
-    let t : digit b ≡ true = digits-first b s e in
-    decimal-from (v * 10 + digitValue b) s (omega arith) (digits-rest b s e)
+    let t : digit b ≡ true = leading-first digit b s e in
+    decimal-from (v * 10 + digitValue b) s (omega arith) (leading-rest digit b s e)
     ∙ ap (λ (x : List ℕ). x ++ s) (decimal-next v (digitValue b) h (digit-below b t))
     ∙ append-snoc (decimalText v) (digitText (digitValue b)) s
     ∙ ap (λ (x : ℕ). decimalText v ++ x ∷ s) (digit-back b t)
@@ -172,31 +164,22 @@ pub decimal-of-value :
 unfolding valueFrom
 decimal-of-value [] h e n = absurd (not-suc-le-zero h)
 decimal-of-value (b ∷ []) h e n =
-    let t : digit b ≡ true = digits-first b [] e in
+    let t : digit b ≡ true = leading-first digit b [] e in
     let v : 0 * 10 + digitValue b ≡ digitValue b = omega arith in
     ap decimalText v ∙ decimal-small (digitValue b) (digit-below b t) ∙ ap (λ (x : ℕ). x ∷ []) (digit-back b t)
 decimal-of-value (b ∷ c ∷ s) h e n =
-    let t : digit b ≡ true = digits-first b (c ∷ s) e in
+    let t : digit b ≡ true = leading-first digit b (c ∷ s) e in
     let m : ltb 1 (length (b ∷ c ∷ s)) ≡ true = lt-ltb 1 (length (b ∷ c ∷ s)) (omega arith) in
     let f : b ≡ 48 → ⊥ = eqb-false b 48 (by-cases (eqb b 48) (λ q. absurd (true-false (both-true q m) n)) (λ q. q)) in
     let l : 48 ≤ b = leb-true 48 b (both-left (leb 48 b) (leb b 57) t) in
     let p : 0 < digitValue b = omega arith in
     let v : 0 * 10 + digitValue b ≡ digitValue b = omega arith in
     ap (λ (x : ℕ). decimalText (valueFrom x (c ∷ s))) v
-    ∙ decimal-from (digitValue b) (c ∷ s) p (digits-rest b (c ∷ s) e)
+    ∙ decimal-from (digitValue b) (c ∷ s) p (leading-rest digit b (c ∷ s) e)
     ∙ ap (λ (x : List ℕ). x ++ (c ∷ s)) (decimal-small (digitValue b) (digit-below b t))
     ∙ ap (λ (x : ℕ). x ∷ c ∷ s) (digit-back b t)
 
 -- a number's text is digits, one at least, with no needless zero
-pub leading-joined :
-    (kind : ℕ → Bool) (s t : List ℕ) → leading kind s ≡ length s → leading kind t ≡ length t → leading kind (s ++ t) ≡ length (s ++ t)
-unfolding leading
-leading-joined kind [] t e f = f
-leading-joined kind (b ∷ s) t e f =
-    by-cases (kind b)
-    (λ q. simp q (ap suc (leading-joined kind s t (suc-inj (simp q at e)) f)))
-    (λ q. absurd (suc-ne-zero (length s) (sym (simp q at e))))
-
 is-digit : (d : ℕ) → d < 10 → leading digit (digitText d ∷ []) ≡ 1
 unfolding leading
 is-digit d h = simp (le-leb 48 (48 + d) (omega arith), le-leb (48 + d) 57 (omega arith))
@@ -208,8 +191,12 @@ digits-within (suc k) n h =
     by-cases (ltb n 10) (λ e. simp e (is-digit n (ltb-true n 10 e)))
     (λ e.
     let t : 10 ≤ n = ltb-false n 10 e in
+    let s = textWithin k (n / 10) in
+    let d = digitText (n % 10) ∷ [] in
     simp e
-    (leading-joined digit (textWithin k (n / 10)) (digitText (n % 10) ∷ []) (digits-within k (n / 10) (omega arith)) (is-digit (n % 10) (omega arith))))
+    (leading-append digit s d (digits-within k (n / 10) (omega arith))
+    ∙ ap (λ (m : ℕ). length s + m) (is-digit (n % 10) (omega arith))
+    ∙ sym (length-append s d)))
 
 some-within : (k n : ℕ) → n < k → 0 < length (textWithin k n)
 unfolding textWithin

@@ -3,14 +3,13 @@
 use mathlib.Core.Path.{_≡_, refl, sym, ap, _∙_}
 use mathlib.Core.Bool.{Bool, true, false}
 use mathlib.Core.List.{List, [], _∷_, _++_}
-use Prim.Native.Nat.{ℕ, zero, suc, _+_, _<_, _≤_, suc-le-suc}
-use native.Mathlib.Nat.{add-zero, add-suc, suc-add, add-assoc, not-suc-le-zero, le-of-suc-le-suc}
+use Prim.Native.Nat.{ℕ, suc, _+_, _<_, _≤_, suc-le-suc}
+use native.Mathlib.Nat.{add-zero, zero-add, add-suc, suc-add, add-assoc, not-suc-le-zero, le-of-suc-le-suc, suc-ne-zero, suc-inj}
 use native.Mathlib.Numerals.{add-one}
 use native.Mathlib.Omega.{arith}
 use lib.Dec.{eqb}
 use lib.ListN.{length, getD, drop, take, set, length-append, drop-of-length-le}
 use lib.Seq.{drop-cons, drop-length, take-suc, take-length, length-take-le, sets}
-use Rattle.base.specs.Words.{pick}
 use Rattle.base.proofs.Tests.{by-cases, pick-case}
 use Rattle.text.specs.Text.{agreed, leading, Buffer, buffer, append}
 
@@ -109,6 +108,22 @@ unfolding leading
 leading-ends kind [] h = absurd (not-suc-le-zero h)
 leading-ends kind (b ∷ s) h =
     by-cases (kind b) (λ t. simp t (leading-ends kind s (le-of-suc-le-suc (simp t at h)))) (λ f. simp f)
+
+-- a list of one kind of byte, and what follows it
+pub leading-first : (kind : ℕ → Bool) (b : ℕ) (s : List ℕ) → leading kind (b ∷ s) ≡ length (b ∷ s) → kind b ≡ true
+unfolding leading
+leading-first kind b s e = by-cases (kind b) (λ t. t) (λ f. absurd (suc-ne-zero (length s) (sym (simp f at e))))
+
+pub leading-rest : (kind : ℕ → Bool) (b : ℕ) (s : List ℕ) → leading kind (b ∷ s) ≡ length (b ∷ s) → leading kind s ≡ length s
+unfolding leading
+leading-rest kind b s e = suc-inj (simp (leading-first kind b s e) at e)
+
+pub leading-append : (kind : ℕ → Bool) (s t : List ℕ) → leading kind s ≡ length s → leading kind (s ++ t) ≡ length s + leading kind t
+unfolding leading
+leading-append kind [] t e = sym (zero-add (leading kind t))
+leading-append kind (b ∷ s) t e =
+    simp (leading-first kind b s e)
+    (ap suc (leading-append kind s t (leading-rest kind b s e)) ∙ sym (suc-add (length s) (leading kind t)))
 
 pub append-none : (o : Buffer) → append o [] ≡ o
 unfolding append

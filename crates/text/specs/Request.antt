@@ -2,10 +2,9 @@
 -- which comes last, wants what came before the line and is the tape's.
 -- Assumes nothing.
 use Prim.Native.Nat.{ℕ}
-use mathlib.Core.Bool.{Bool, true, false, not, _||_}
-use mathlib.Core.List.{List, [], _∷_, _++_}
+use mathlib.Core.Bool.{Bool, true, false, not}
+use mathlib.Core.List.{List, _++_}
 use Rattle.base.specs.Words.{pick}
-use Rattle.record.specs.declared.Act.{Act}
 use Rattle.text.specs.declared.Name.{Name}
 use Rattle.text.specs.declared.Name.the-variants.{PartName, ActName, Unknown}
 use Rattle.text.specs.declared.Request.{Request}

@@ -1,8 +1,8 @@
 -- Words over lists of bytes: how far a list agrees with a word, how many of its first bytes are of a kind, and bytes put into a buffer one
 -- after another. They are no rule of a tape.
 -- Assumes nothing.
-use Prim.Native.Nat.{ℕ, zero, suc, _+_}
-use mathlib.Core.Bool.{Bool, true, false, _&&_}
+use Prim.Native.Nat.{ℕ, suc, _+_}
+use mathlib.Core.Bool.{Bool, _&&_}
 use mathlib.Core.List.{List, [], _∷_}
 use lib.Dec.{leb, eqb}
 use lib.ListN.{length}

@@ -1,7 +1,7 @@
 -- `tape::chunk::end_line` meets its contract: a line that lies in the chunk whole, and one of which the beginning is kept.
 -- Assumes nothing.
 use native.Mathlib.Omega.{arith}
-use mathlib.Core.Path.{_≡_, sym, ap, _∙_}
+use mathlib.Core.Path.{sym, ap, _∙_}
 use mathlib.Core.List.{List, _++_}
 use Prim.Native.Nat.{ℕ}
 use lib.ListN.{take}

@@ -1,7 +1,7 @@
 -- `tape::chunk::finish` meets its contract: buffers that do not fit, an end, and no room for its answer.
 -- Assumes nothing.
 use native.Mathlib.Omega.{arith}
-use mathlib.Core.Path.{_≡_, sym, ap, _∙_}
+use mathlib.Core.Path.{sym, ap, _∙_}
 use mathlib.Core.Bool.{Bool, _&&_}
 use Prim.Native.Nat.{_-_}
 use lib.Dec.{leb}

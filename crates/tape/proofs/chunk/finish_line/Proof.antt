@@ -8,7 +8,8 @@ use lib.ListN.{length, take}
 use lib.Seq.{length-take-le}
 use Rattle.text.specs.Text.{buffer}
 use Rattle.tape.specs.Answer.{Shown}
-use Rattle.tape.specs.Tape.{state, stateOf}
+use Rattle.tape.specs.declared.Feed.{Feed}
+use Rattle.tape.specs.Tape.{state, stateOf, takenBy}
 use Rattle.tape.proofs.TapeLaws.{finish-none, finish-some}
 use borrow.Author.Needs.{needs}
 use Rattle.tape.proofs.chunk.finish_line.Statement.{statement}
@@ -34,7 +35,9 @@ returns-2 c =
     let o = buffer (a .out .now) (a .at) in
     let l : length (take (a .tape .begun) (a .line .now)) ≡ a .tape .begun = length-take-le (a .tape .begun) (a .line .now) (omega (arith, b .pre .0, b .pre .1)) in
     let n : a .tape .begun ≡ 0 → ⊥ = c .before .before .before .before .before .before .before .before .before .before .before .before .before .if1 .left in
-    ap (λ (x : Shown). record { after = state (x .after) []; out = x .out; count = 0 }) (c .before .before .before .before .before .before .before .answer-line .ensures)
+    let q = c .before .before .before .before .before .before .before .answer-line in
+    ap (λ (f : Feed). takenBy f (a .line .now) (q .last .1 .1 .0) (q .last .1 .1 .1 .0) (q .last .1 .1 .1 .1 .0)) (c .feed-of .ensures)
+    ∙ ap (λ (x : Shown). record { after = state (x .after) []; out = x .out; count = 0 }) (q .ensures)
     ∙ finish-some s o (omega arith)
 
 pub finish-line-spec : {M : Type 1} → statement M
@@ -44,6 +47,7 @@ finish-line-spec =
     returns
     (λ c. search needs)
     slice-aggregate-answer-line
+    (λ c κs. search needs)
     (λ c κs. search needs)
     (λ c. search needs)
     (λ c. search needs)

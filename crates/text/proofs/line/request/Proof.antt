@@ -5,9 +5,8 @@ use mathlib.Core.Bool.{not, false}
 use mathlib.Core.List.{List}
 use Prim.Native.Nat.{ℕ}
 use lib.ListN.{take, drop}
-use borrow.Author.Tests.{not-false}
 use Rattle.base.proofs.Tests.{yes, no}
-use Rattle.text.specs.Line.{nameSize, nameText, nameOf, digitsText}
+use Rattle.text.specs.Line.{nameText, nameOf, digitsText}
 use Rattle.text.specs.Number.{badDigits, digitLimit, valueOf}
 use Rattle.text.specs.Request.{asked, unknownName, requestOf}
 use Rattle.text.proofs.NumberLaws.{few-digits}

@@ -1,11 +1,10 @@
 -- The proof of the cycle of calls {put_decimal}: the number's tenth is put first, then its last digit. The measure is the number.
 -- Assumes nothing.
-use Prim.Native.Nat.{ℕ, _+_, _*_, _/_, _%_, _<_, _≤_}
-use mathlib.Core.Path.{_≡_, sym, ap, subst, _∙_}
-use mathlib.Core.List.{List, [], _∷_}
+use Prim.Native.Nat.{ℕ, _/_, _%_, _<_, _≤_}
+use mathlib.Core.Path.{sym, ap, _∙_}
+use mathlib.Core.List.{[], _∷_}
 use native.Mathlib.Omega.{arith}
-use borrow.Author.Needs.{needs}
-use lib.ListN.{length, length-set}
+use lib.ListN.{length-set}
 use Rattle.text.specs.Text.{Buffer, buffer, append}
 use Rattle.text.specs.Number.{digitText, decimalText}
 use Rattle.text.proofs.TextLaws.{append-join, append-byte, place}

@@ -3,10 +3,10 @@
 use mathlib.Core.List.{List}
 use Rattle.text.specs.Text.{buffer}
 use native.Mathlib.Omega.{arith}
-use mathlib.Core.Path.{_≡_, refl, sym, ap, _∙_}
-use Prim.Native.Nat.{ℕ, _+_, _≤_, _<_, _-_}
+use mathlib.Core.Path.{_≡_, refl, ap, _∙_}
+use Prim.Native.Nat.{ℕ, _+_, _≤_, _-_}
 use lib.ListN.{length, getD, take, set, length-set}
-use lib.Seq.{sets, length-sets}
+use lib.Seq.{sets}
 use Rattle.text.proofs.TextLaws.{sets-more, append-all}
 use Rattle.text.proofs.print.put.Statement.{statement}
 use Rattle.text.proofs.print.put.Tie as tie

@@ -1,12 +1,10 @@
 -- `text::print::put_answer` meets its contract: its three parts, one after the other.
 -- Assumes nothing.
 use native.Mathlib.Omega.{arith}
-use mathlib.Core.Path.{_≡_, ap, sym, _∙_}
-use mathlib.Core.List.{List, [], _∷_, _++_}
-use Prim.Native.Nat.{ℕ, _+_, _≤_, _<_, _^_}
-use lib.ListN.{length}
+use mathlib.Core.Path.{ap, _∙_}
+use mathlib.Core.List.{_++_}
 use Rattle.text.specs.Text.{Buffer, buffer, append}
-use Rattle.text.proofs.TextLaws.{append-join, place}
+use Rattle.text.proofs.TextLaws.{append-join}
 use Rattle.text.specs.Number.{decimalText}
 use Rattle.text.specs.Print.{noText, outWord, outOf, outText, levelsText, answerLine}
 use Rattle.text.proofs.PrintLaws.{number-place}

@@ -2,17 +2,12 @@
 -- Assumes nothing.
 use native.Mathlib.Omega.{arith}
 use mathlib.Core.Path.{_≡_, ap, sym, _∙_}
-use mathlib.Core.List.{List, [], _∷_}
-use mathlib.Core.Bool.{true, false}
-use Prim.Native.Nat.{ℕ, _+_, _≤_, _<_, _^_}
 use lib.Dec.{eqb}
-use lib.ListN.{length}
 use mir.Syntax.{w64}
 use mir.Val.{Fits}
 use borrow.Author.Tests.{not-true, not-false}
 use Rattle.base.proofs.Tests.{yes, no}
-use Rattle.record.specs.declared.Reply.{Reply}
-use Rattle.text.specs.Text.{Buffer, buffer, append}
+use Rattle.text.specs.Text.{buffer, append}
 use Rattle.text.specs.Number.{decimalText}
 use Rattle.text.specs.Print.{Out, shown, z, outText, replyOut, outOf}
 use Rattle.text.proofs.TextLaws.{place}
