@@ -1,4 +1,5 @@
--- Laws of a page stored into a lent memory: a turn of the loop that stores it, and that a page lies inside its memory.
+-- Laws of a page stored into a lent memory: a turn of the loop that stores it, the part of the memory that it is, and that a page lies
+-- inside its memory.
 -- Assumes nothing.
 use mathlib.Core.Path.{_≡_, refl, sym, ap, _∙_}
 use mathlib.Core.Bool.{Bool, true, false}
