@@ -1,9 +1,16 @@
 // Which alarm matches the registers as the calendar just left them.
-use crate::lines::ALARM_0;
-use crate::lines::ALARM_1;
-use crate::registers::CONTROL;
 use calendar::Advanced;
 use record::ClockAddress;
+use record::registers::ALARM_0;
+use record::registers::ALARM_1;
+use record::registers::CONTROL;
+use record::registers::DATE;
+use record::registers::DAY;
+use record::registers::HOURS;
+use record::registers::HUNDREDTHS;
+use record::registers::MINUTES;
+use record::registers::MONTH;
+use record::registers::SECONDS;
 ghost use mathlib.Core.Path.{_≡_};
 ghost use Prim.Native.Nat.{_≤_, _<_};
 ghost use Rattle.block.specs.Alarm.{matchesAt, allMatch, plainMatch, match0, match1, raise, alarmed};
@@ -33,11 +40,11 @@ fn matches_at(regs: [u8; 32], at: ClockAddress) -> Matches
     let hours = a - 1;
     let date = a + 1;
     Matches {
-        seconds: regs[0x01] % 128 == regs[seconds] % 128,
-        minutes: regs[0x02] % 128 == regs[minutes] % 128,
-        hours: regs[0x03] % 64 == regs[hours] % 64,
-        day: regs[0x04] % 8 == regs[a] % 8,
-        date: regs[0x05] % 64 == regs[date] % 64,
+        seconds: regs[SECONDS] % 128 == regs[seconds] % 128,
+        minutes: regs[MINUTES] % 128 == regs[minutes] % 128,
+        hours: regs[HOURS] % 64 == regs[hours] % 64,
+        day: regs[DAY] % 8 == regs[a] % 8,
+        date: regs[DATE] % 64 == regs[date] % 64,
     }
 }
 
@@ -75,7 +82,7 @@ fn matches_alarm_0(t: Advanced, regs: [u8; 32]) -> bool
     let m = matches_at(regs, FLAG_0);
     let code = regs[ALARM_0] / 16 % 8;
     if code == 7 {
-        let month = regs[0x06] % 32 == regs[0x11] % 32;
+        let month = regs[MONTH] % 32 == regs[0x11] % 32;
         let whole = t.seconds & (all_match(m) & month);
         return plain_match(t, m, code, whole);
     }
@@ -92,7 +99,7 @@ fn matches_alarm_1(t: Advanced, regs: [u8; 32]) -> bool
         return plain_match(t, m, code, whole);
     }
     if code == 5 {
-        let hundredths = regs[0x00] == regs[0x12];
+        let hundredths = regs[HUNDREDTHS] == regs[0x12];
         return plain_match(t, m, code, hundredths);
     }
     plain_match(t, m, code, false)

@@ -1,13 +1,11 @@
 // The output lines, WIP and STATUS, as functions of the record.
-use crate::registers::CONTROL;
 use record::Device;
+use record::registers::ALARM_0;
+use record::registers::ALARM_1;
+use record::registers::CONTROL;
 ghost use mathlib.Core.Path.{_≡_};
 ghost use Rattle.base.specs.Words.{flag};
 ghost use Rattle.block.specs.Lines.{raised, irqLow, wdoLow, wip, changed, statusByte};
-
-pub const ALARM_0: usize = 0x0f;
-
-pub const ALARM_1: usize = 0x16;
 
 // IRQ is low.
 pub fn irq_low(d: Device) -> bool

@@ -2,24 +2,13 @@
 use record::ClockAddress;
 use record::Counters;
 use record::Device;
-use record::limits::WRITABLE;
+use record::registers::HOURS;
+use record::registers::WRITABLE;
+use record::registers::YEAR;
 ghost use mathlib.Core.Path.{_≡_};
 ghost use Prim.Native.Nat.{_<_};
 ghost use Rattle.base.specs.Words.{pick};
 ghost use Rattle.block.specs.Registers.{made, readClock, afterWrite, writeRegister, writeClock};
-
-// Addresses by the sheet's names.
-pub const SECONDS: usize = 0x01;
-
-pub const HOURS: usize = 0x03;
-
-pub const DAY: usize = 0x04;
-
-pub const YEAR: usize = 0x07;
-
-pub const CONTROL: usize = 0x08;
-
-pub const WATCHDOG: usize = 0x0a;
 
 fn bits_if(test: bool, v: u8) -> u8
     ensures { λ r. ⌜ r ≡ pick test v 0 ⌝ }
@@ -34,7 +23,7 @@ fn made_bits(d: Device, at: ClockAddress) -> u8
     let a = at.0;
     if a == 0x04 {
         let c = d.counters;
-        return bits_if(c.startup == record::limits::STARTUP_TICKS, 0x20);
+        return bits_if(c.startup == record::registers::STARTUP_TICKS, 0x20);
     }
     if a == 0x06 {
         return bits_if(calendar::leap(d.regs[YEAR]), 0x20);
@@ -82,7 +71,7 @@ fn after_write(boots: bool, at: ClockAddress, v: u8, c: Counters) -> Counters
         let mut next = c;
         next.watchdog = 0;
         if (v / 128 % 2 == 1) & (v / 32 % 2 == 1) & !(v / 64 % 2 == 1) {
-            next.delay = record::limits::DELAY_TICKS;
+            next.delay = record::registers::DELAY_TICKS;
             return next;
         }
         next.delay = 0;

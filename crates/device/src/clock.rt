@@ -1,8 +1,15 @@
 // The divider, the calendar and the alarms of a tick.
-use block::registers::SECONDS;
 use calendar::Time;
 use record::Device;
-use record::limits::DIVIDER_TICKS;
+use record::registers::DATE;
+use record::registers::DAY;
+use record::registers::DIVIDER_TICKS;
+use record::registers::HOURS;
+use record::registers::HUNDREDTHS;
+use record::registers::MINUTES;
+use record::registers::MONTH;
+use record::registers::SECONDS;
+use record::registers::YEAR;
 ghost use mathlib.Core.Path.{_≡_};
 ghost use Prim.Native.Nat.{_<_};
 ghost use Rattle.device.specs.Clock.{timeOf, withTime, hundredthDue, dividerTick, calendarTick};
@@ -12,14 +19,14 @@ fn time_of(regs: [u8; 32]) -> Time
     ensures { λ r. ⌜ r ≡ timeOf regs ⌝ }
 {
     Time {
-        hundredths: regs[0x00],
-        seconds: regs[0x01],
-        minutes: regs[0x02],
-        hours: regs[0x03],
-        day: regs[0x04],
-        date: regs[0x05],
-        month: regs[0x06],
-        year: regs[0x07],
+        hundredths: regs[HUNDREDTHS],
+        seconds: regs[SECONDS],
+        minutes: regs[MINUTES],
+        hours: regs[HOURS],
+        day: regs[DAY],
+        date: regs[DATE],
+        month: regs[MONTH],
+        year: regs[YEAR],
     }
 }
 
@@ -27,14 +34,14 @@ fn with_time(regs: [u8; 32], t: Time) -> [u8; 32]
     ensures { λ r. ⌜ r ≡ withTime regs t ⌝ }
 {
     let mut next = regs;
-    next[0x00] = t.hundredths;
-    next[0x01] = t.seconds;
-    next[0x02] = t.minutes;
-    next[0x03] = t.hours;
-    next[0x04] = t.day;
-    next[0x05] = t.date;
-    next[0x06] = t.month;
-    next[0x07] = t.year;
+    next[HUNDREDTHS] = t.hundredths;
+    next[SECONDS] = t.seconds;
+    next[MINUTES] = t.minutes;
+    next[HOURS] = t.hours;
+    next[DAY] = t.day;
+    next[DATE] = t.date;
+    next[MONTH] = t.month;
+    next[YEAR] = t.year;
     next
 }
 

@@ -1,7 +1,7 @@
 // The oscillator's part of a tick.
-use block::registers::SECONDS;
 use record::Device;
-use record::limits::STARTUP_TICKS;
+use record::registers::SECONDS;
+use record::registers::STARTUP_TICKS;
 ghost use mathlib.Core.Path.{_≡_};
 ghost use Rattle.device.specs.Oscillator.{oscillatorTick};
 

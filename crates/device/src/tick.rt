@@ -1,13 +1,13 @@
 // One tick of the record.
-use block::registers::DAY;
 use record::Cycle;
 use record::Device;
 use record::Guard;
 use record::Protection;
 use record::Target;
+use record::registers::DAY;
 ghost use mathlib.Core.Path.{_≡_};
 ghost use Rattle.device.specs.World.{protectionAfter};
-ghost use Rattle.device.specs.Tick.{withLeft, cycleEnded, cycleDevice, clockwork, deviceTick};
+ghost use Rattle.device.specs.Tick.{withLeft, cycleEnded, cycleDevice, clockwork, alive, deviceTick};
 
 // The mask of a cycle that is not cut: every bit set.
 pub const WHOLE: u8 = 255;
@@ -78,17 +78,24 @@ fn clockwork_tick(boots: bool, d: Device) -> Device
     ensures { λ r. ⌜ r ≡ clockwork boots d ⌝ }
 {
     let c = d.counters;
-    let counted = c.startup == record::limits::STARTUP_TICKS;
+    let counted = c.startup == record::registers::STARTUP_TICKS;
     let asked = crate::oscillator::oscillator_tick(boots, d);
     let watched = crate::watchdog::watchdog_tick(counted, asked);
     crate::clock::clock_tick(counted, watched)
+}
+
+// The chip has power, or VBATEN is set: ticks count.
+pub fn is_alive(d: Device) -> bool
+    ensures { λ r. ⌜ r ≡ alive d ⌝ }
+{
+    d.power | (d.regs[DAY] / 8 % 2 == 1)
 }
 
 // With power off and VBATEN clear nothing counts.
 pub fn device_tick(boots: bool, d: Device) -> Device
     ensures { λ r. ⌜ r ≡ deviceTick boots d ⌝ }
 {
-    let alive = d.power | (d.regs[DAY] / 8 % 2 == 1);
+    let alive = is_alive(d);
     if alive {
         return clockwork_tick(boots, cycle_tick(d));
     }

@@ -1,9 +1,9 @@
 // The watchdog's part of a tick: pulse, delay, count.
-use block::registers::WATCHDOG;
 use record::Counters;
 use record::Device;
-use record::limits::LONG_PULSE;
-use record::limits::SHORT_PULSE;
+use record::registers::LONG_PULSE;
+use record::registers::SHORT_PULSE;
+use record::registers::WATCHDOG;
 ghost use mathlib.Core.Path.{_≡_};
 ghost use Rattle.device.specs.Watchdog.{pulseTick, timeOut, countedTick, watchdogTick};
 
@@ -51,7 +51,7 @@ fn counted_tick(d: Device) -> Device
         next.counters = counters;
         return next;
     }
-    let most = record::limits::period(d.regs[WATCHDOG]);
+    let most = record::registers::period(d.regs[WATCHDOG]);
     if counters.watchdog < most - 1 {
         counters.watchdog = counters.watchdog + 1;
         let mut next = d;

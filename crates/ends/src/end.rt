@@ -36,7 +36,7 @@ fn cycle_after(top: u8, k: u8, d: Device) -> Cycle
         let target = target_at(old, stage);
         return Cycle {
             target,
-            left: record::limits::CYCLE_TICKS,
+            left: record::registers::CYCLE_TICKS,
         };
     }
     y

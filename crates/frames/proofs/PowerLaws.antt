@@ -18,7 +18,7 @@ use Rattle.base.proofs.BitLaws.{count-ones, below-mask}
 use Rattle.base.proofs.StoreLaws.{set-case}
 use Rattle.record.specs.declared.Device.{Device}
 use Rattle.record.specs.declared.Counters.{Counters}
-use Rattle.record.specs.Fresh.{fresh, freshRegs}
+use Rattle.record.specs.Fresh.{fresh, freshRegs, freshCounters}
 use Rattle.record.specs.Part.{bootsOf}
 use Rattle.record.specs.Registers.{secondsAt, watchdogAt}
 use Rattle.refusals.specs.InRange.{InRange}
@@ -27,7 +27,7 @@ use Rattle.device.specs.World.{World}
 use Rattle.device.proofs.WatchdogLaws.{period-least}
 use Rattle.device.proofs.RegisterLaws.{Inside, Halted, ClockIn, clock-in}
 use Rattle.device.proofs.TickRangeLaws.{eeprom-after-length, id-after-length}
-use Rattle.frames.specs.Power.{vbaten, cutCounters, freshCounters, cutRegs, afterCut, cutWorld, afterUp}
+use Rattle.frames.specs.Power.{vbaten, cutCounters, cutRegs, afterCut, cutWorld, afterUp}
 use Rattle.frames.proofs.FrameLaws.{Sized}
 
 under-mask : (offsets mask : ℕ) → mask < 256 → bitAnd offsets mask < 256

@@ -12,7 +12,7 @@ use Rattle.record.specs.declared.Guard.{Guard}
 use Rattle.record.specs.declared.Stage.the-variants.{Idle}
 use Rattle.record.specs.declared.Lock.the-variants.{Closed}
 use Rattle.record.specs.Registers.{dayAt, watchdogAt}
-use Rattle.record.specs.Fresh.{freshRegs, freshSram}
+use Rattle.record.specs.Fresh.{freshRegs, freshSram, freshCounters}
 use Rattle.block.specs.Setters.{withPower}
 use Rattle.device.specs.World.{World, world, eepromAfter, idAfter, protectionAfter, storedCount}
 
@@ -23,9 +23,6 @@ vbaten regs = bit (getD regs dayAt 0) 3
 -- "0Ah bit 7 and the watchdog's count, delay and pulse clear"
 abbrev pub cutCounters : Counters → Counters
 cutCounters c = record { divider = c .divider; startup = c .startup; watchdog = 0; delay = 0; pulse = 0 }
-
-abbrev pub freshCounters : Counters
-freshCounters = record { divider = 0; startup = 0; watchdog = 0; delay = 0; pulse = 0 }
 
 abbrev pub cutRegs : List ℕ → List ℕ
 cutRegs regs = set regs watchdogAt (getD regs watchdogAt 0 % 128)

@@ -1,6 +1,4 @@
 // Power cut and power up, of the record.
-use block::registers::DAY;
-use block::registers::WATCHDOG;
 use record::Counters;
 use record::Cycle;
 use record::Device;
@@ -10,11 +8,13 @@ use record::Load;
 use record::Lock;
 use record::Stage;
 use record::Target;
+use record::registers::DAY;
+use record::registers::WATCHDOG;
 ghost use mathlib.Core.Path.{_≡_};
 ghost use Rattle.base.specs.Words.{pick};
-ghost use Rattle.record.specs.Fresh.{freshRegs, freshSram};
+ghost use Rattle.record.specs.Fresh.{freshRegs, freshSram, freshCounters};
 ghost use Rattle.device.specs.World.{storedCount};
-ghost use Rattle.frames.specs.Power.{cutCounters, freshCounters, cutRegs, cutProtection, afterCut, cutCount, afterUp};
+ghost use Rattle.frames.specs.Power.{cutCounters, cutRegs, cutProtection, afterCut, cutCount, afterUp};
 
 fn cut_regs(keep: bool, regs: [u8; 32]) -> [u8; 32]
     ensures { λ r. ⌜ r ≡ pick keep (cutRegs regs) freshRegs ⌝ }
@@ -24,11 +24,7 @@ fn cut_regs(keep: bool, regs: [u8; 32]) -> [u8; 32]
         next[WATCHDOG] = regs[WATCHDOG] % 128;
         return next;
     }
-    let mut next = [0u8; 32];
-    next[0x04] = 1;
-    next[0x05] = 1;
-    next[0x06] = 1;
-    next
+    record::fresh_regs()
 }
 
 fn cut_sram(keep: bool, sram: [u8; 64]) -> [u8; 64]

@@ -5,6 +5,7 @@ use Prim.Native.Nat.{ℕ}
 use mathlib.Core.Bool.{true, false}
 use mathlib.Core.List.{List}
 use lib.ListN.{set, replicate}
+use Rattle.record.specs.declared.Counters.{Counters}
 use Rattle.record.specs.declared.Device.{Device}
 use Rattle.record.specs.declared.Protection.the-variants.{Nothing}
 use Rattle.record.specs.declared.Lock.the-variants.{Closed}
@@ -18,12 +19,15 @@ freshRegs = set (set (set (replicate 32 0) dayAt 1) dateAt 1) monthAt 1
 abbrev pub freshSram : List ℕ
 freshSram = replicate 64 0
 
+abbrev pub freshCounters : Counters
+freshCounters = record { divider = 0; startup = 0; watchdog = 0; delay = 0; pulse = 0 }
+
 unfoldable pub fresh : Device
 fresh =
     record {
       regs = freshRegs;
       sram = freshSram;
-      counters = record { divider = 0; startup = 0; watchdog = 0; delay = 0; pulse = 0 };
+      counters = freshCounters;
       power = true;
       guard = record { wel = false; protection = Nothing; lock = Closed };
       frame = record { stage = Idle };

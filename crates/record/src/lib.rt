@@ -1,12 +1,17 @@
 // The chip's record: what a chip is between two acts. The registers and the SRAM are held in it by value; the two
 // memories, EEPROM and ID, are lent to each act and are no part of it.
+use part::ID_LAST;
+use part::ID_SIZE;
+use registers::DATE;
+use registers::DAY;
+use registers::MONTH;
 ghost use mathlib.Core.Path.{_≡_};
 ghost use Rattle.record.specs.Address.{rollEeprom, takenEeprom, rollId, takenId, rollClock};
-ghost use Rattle.record.specs.Fresh.{fresh};
+ghost use Rattle.record.specs.Fresh.{freshRegs, fresh};
 
-pub mod limits; // limits.rt: the limits and the watchdog's periods
 pub mod number; // number.rt: the numbers of the enums' cases
 pub mod part; // part.rt: the four parts
+pub mod registers; // registers.rt: the registers' addresses and masks, the limits
 pub mod stages; // stages.rt: what a stage and a cycle's target tell
 
 // An address of the EEPROM.
@@ -169,7 +174,7 @@ impl IdAddress {
     pub fn taken(v: u8) -> IdAddress
         ensures { λ r. ⌜ r ≡ takenId v ⌝ }
     {
-        IdAddress(v % 16)
+        IdAddress(v % ID_SIZE)
     }
 
     // From 0Fh the pointer rolls to 00h.
@@ -177,7 +182,7 @@ impl IdAddress {
         ensures { λ r. ⌜ r ≡ rollId self ⌝ }
     {
         let a = self.0;
-        if a < 15 {
+        if a < ID_LAST {
             IdAddress(a + 1)
         } else {
             IdAddress(0)
@@ -204,14 +209,22 @@ impl ClockAddress {
     }
 }
 
+// The registers of a fresh chip: 0, but day, date and month 01h.
+pub fn fresh_regs() -> [u8; 32]
+    ensures { λ r. ⌜ r ≡ freshRegs ⌝ }
+{
+    let mut regs = [0u8; 32];
+    regs[DAY] = 1;
+    regs[DATE] = 1;
+    regs[MONTH] = 1;
+    regs
+}
+
 // A fresh chip, the same for every part.
 pub fn fresh_device() -> Device
     ensures { λ r. ⌜ r ≡ fresh ⌝ }
 {
-    let mut regs = [0u8; 32];
-    regs[4] = 1;
-    regs[5] = 1;
-    regs[6] = 1;
+    let regs = fresh_regs();
     Device {
         regs,
         sram: [0u8; 64],

@@ -2,6 +2,11 @@
 ghost use mathlib.Core.Path.{_≡_};
 ghost use Rattle.record.specs.Part.{isPart, topOf, bootsOf};
 
+// The ID memory has 16 bytes.
+pub const ID_SIZE: u8 = 16;
+
+pub const ID_LAST: u8 = ID_SIZE - 1;
+
 pub fn is_part(part: u64) -> bool
     ensures { λ r. ⌜ r ≡ isPart part ⌝ }
 {

@@ -1,13 +1,15 @@
 // The refusal table: the number that answers an act, or 0. It performs nothing.
 use record::Act;
 use record::Device;
-use record::limits::WAIT_LIMIT;
 use record::part;
+use record::registers::WAIT_LIMIT;
 use record::stages;
 ghost use mathlib.Core.Path.{_≡_};
 ghost use Rattle.refusals.specs.Refusal.{wrongNumber, wrongPower, wrongSelect, firstRefusal, refusalOf};
 
 pub mod range; // range.rt: number 6
+
+const ID_LENGTH: usize = part::ID_SIZE as usize;
 
 fn wrong_number(act: Act, n: u64) -> bool
     ensures { λ r. ⌜ r ≡ wrongNumber act n ⌝ }
@@ -85,7 +87,7 @@ pub fn refusal(part: u64, act: Act, number: u64, d: Device, eeprom: usize, id: u
     let last = wrong_select(act, open);
     first_refusal(
         !known,
-        (eeprom != size) | (id != 16),
+        (eeprom != size) | (id != ID_LENGTH),
         ranged,
         wrong,
         unpowered,

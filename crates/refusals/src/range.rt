@@ -4,14 +4,17 @@ use record::Cycle;
 use record::Device;
 use record::Load;
 use record::Stage;
-use record::limits;
-use record::limits::CYCLE_TICKS;
-use record::limits::DELAY_TICKS;
-use record::limits::DIVIDER_LAST;
-use record::limits::KEPT;
-use record::limits::LONG_PULSE;
-use record::limits::STARTUP_TICKS;
 use record::part;
+use record::part::ID_LAST;
+use record::registers;
+use record::registers::CYCLE_TICKS;
+use record::registers::DELAY_TICKS;
+use record::registers::DIVIDER_LAST;
+use record::registers::KEPT;
+use record::registers::LONG_PULSE;
+use record::registers::SECONDS;
+use record::registers::STARTUP_TICKS;
+use record::registers::WATCHDOG;
 use record::stages;
 ghost use mathlib.Core.Path.{_≡_};
 ghost use Rattle.refusals.specs.Range.{bitOutside, countersOut, frameOut, outOfRange};
@@ -34,8 +37,8 @@ fn bit_outside(regs: [u8; 32]) -> bool
 fn counters_out(boots: bool, regs: [u8; 32], c: Counters) -> bool
     ensures { λ r. ⌜ r ≡ countersOut boots regs c ⌝ }
 {
-    let most = limits::period(regs[0x0a]);
-    let stopped = !boots & !(regs[0x01] / 128 % 2 == 1);
+    let most = registers::period(regs[WATCHDOG]);
+    let stopped = !boots & !(regs[SECONDS] / 128 % 2 == 1);
     (DIVIDER_LAST < c.divider)
         | (STARTUP_TICKS < c.startup)
         | (LONG_PULSE < c.pulse)
@@ -57,7 +60,7 @@ fn frame_out(size: u16, power: bool, stage: Stage, load: Load, cycle: Cycle) -> 
     let eeprom_written = stages::eeprom_in(target) as u16;
     (CYCLE_TICKS < cycle.left)
         | (7 < load.next)
-        | ((15 < id) | (15 < id_written))
+        | ((ID_LAST < id) | (ID_LAST < id_written))
         | ((size <= eeprom) | (size <= eeprom_written))
         | (!power & (open | busy))
         | (busy & foreign)

@@ -1,9 +1,9 @@
 // Ticks in which only counts move, taken at once.
-use block::registers::SECONDS;
-use block::registers::WATCHDOG;
 use record::Cycle;
 use record::Device;
-use record::limits::STARTUP_TICKS;
+use record::registers::SECONDS;
+use record::registers::STARTUP_TICKS;
+use record::registers::WATCHDOG;
 ghost use mathlib.Core.Path.{_≡_};
 ghost use Prim.Native.Nat.{_+_, _-_, _<_, min};
 ghost use Rattle.base.specs.Words.{pick};
@@ -11,7 +11,7 @@ ghost use Rattle.record.specs.Registers.{dividerTicks};
 ghost use Rattle.waits.specs.Jump.{counts, runs, jumped, above, watched, gap, divided, Quiet, quietTicks};
 
 // The ticks of a second.
-const SECOND: u64 = record::limits::DIVIDER_TICKS as u64;
+const SECOND: u64 = record::registers::DIVIDER_TICKS as u64;
 
 // A count that falls by k, down to 0.
 fn fallen(n: u64, k: u64) -> u64
@@ -60,7 +60,7 @@ fn watchdog_quiet(limit: u64, d: Device) -> u64
     let counting = watchdog_counts(d);
     if counting {
         if c.delay == 0 {
-            let most = record::limits::period(d.regs[WATCHDOG]) as u64;
+            let most = record::registers::period(d.regs[WATCHDOG]) as u64;
             return least(limit, fallen(most - 1, c.watchdog as u64));
         }
         return least(limit, c.delay as u64 - 1);

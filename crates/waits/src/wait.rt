@@ -1,27 +1,19 @@
 // A wait of the record: ticks up to the first that changes IRQ, WDO or WIP, or n.
 use crate::jump::jump;
 use crate::jump::quiet_ticks;
-use block::registers::DAY;
 use record::Device;
 ghost use mathlib.Core.Path.{_≡_};
-ghost use Rattle.device.specs.Tick.{alive, deviceWaited};
+ghost use Rattle.device.specs.Tick.{deviceWaited};
 
 pub struct Waited {
     pub used: u64,
     pub device: Device,
 }
 
-// The chip has power, or VBATEN is set: ticks count.
-fn is_alive(d: Device) -> bool
-    ensures { λ r. ⌜ r ≡ alive d ⌝ }
-{
-    d.power | (d.regs[DAY] / 8 % 2 == 1)
-}
-
 pub fn wait_device(boots: bool, n: u64, d: Device) -> Waited
     ensures { λ r. ⌜ (r .used ≡ deviceWaited boots n d .used) × (r .device ≡ deviceWaited boots n d .device) ⌝ }
 {
-    let alive = is_alive(d);
+    let alive = device::tick::is_alive(d);
     if !alive {
         return Waited { used: n, device: d };
     }

@@ -7,13 +7,11 @@ use Rattle.record.proofs.fresh_device.Tie as tie
 
 returns : tie.Need-returns
 unfolding fresh
-returns c = search needs
+returns c = simp (c .fresh-regs .ensures)
 
 pub fresh-device-spec : {M : Type 1} → statement M
 fresh-device-spec =
     tie.close
     (tie.spec
-    (λ c. search needs)
-    (λ c. search needs)
-    (λ c. search needs)
+    (λ c κs. search needs)
     returns)

@@ -7,17 +7,19 @@ use Rattle.device.proofs.tick.device_tick.Tie as tie
 
 returns : tie.Need-returns
 unfolding deviceTick
-returns c = simp (c .clockwork-tick .ensures, c .before .cycle-tick .ensures, c .before .before .if1 .taken)
+returns c =
+    let b = c .before .before in
+    simp (c .clockwork-tick .ensures, c .before .cycle-tick .ensures, rw (b .before .is-alive .ensures) at (b .if1 .taken))
 
 returns-2 : tie.Need-returns-2
 unfolding deviceTick
-returns-2 c = simp (c .if1 .left)
+returns-2 c = simp (rw (c .before .is-alive .ensures) at (c .if1 .left))
 
 pub device-tick-spec : {M : Type 1} → statement M
 device-tick-spec =
     tie.close
     (tie.spec
-    (λ c. search needs)
+    (λ c κs. search needs)
     (λ c κs. search needs)
     (λ c κs. search needs)
     returns

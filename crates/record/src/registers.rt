@@ -1,0 +1,101 @@
+// The registers' addresses and masks, the watchdog's periods, and the limits, each named once.
+ghost use mathlib.Core.Path.{_≡_};
+ghost use Rattle.record.specs.Registers.{periodOf};
+
+// Addresses by the sheet's names.
+pub const HUNDREDTHS: usize = 0x00;
+
+pub const SECONDS: usize = 0x01;
+
+pub const MINUTES: usize = 0x02;
+
+pub const HOURS: usize = 0x03;
+
+pub const DAY: usize = 0x04;
+
+pub const DATE: usize = 0x05;
+
+pub const MONTH: usize = 0x06;
+
+pub const YEAR: usize = 0x07;
+
+pub const CONTROL: usize = 0x08;
+
+pub const WATCHDOG: usize = 0x0a;
+
+// The flag register of each alarm.
+pub const ALARM_0: usize = 0x0f;
+
+pub const ALARM_1: usize = 0x16;
+
+// The bits of each register that WRITE may set, 00h to 1Fh.
+pub const WRITABLE: [u8; 32] = [
+    0xff,
+    0xff,
+    0x7f,
+    0xff,
+    0x1f,
+    0x3f,
+    0x1f,
+    0xff,
+    0xff,
+    0xff,
+    0xff,
+    0xff,
+    0x7f,
+    0x7f,
+    0x3f,
+    0xff,
+    0x3f,
+    0x1f,
+    0xff,
+    0x7f,
+    0x7f,
+    0x3f,
+    0xff,
+    0x3f,
+    0,
+    0,
+    0,
+    0,
+    0,
+    0,
+    0,
+    0,
+];
+
+// The bits that a register may hold: today those that WRITE may set.
+pub const KEPT: [u8; 32] = WRITABLE;
+
+// The watchdog's periods in ticks, by bits 2:0 of 0Ah.
+const PERIODS: [u32; 8] = [32, 512, 2048, 4096, 32768, 524288, 1048576, 2097152];
+
+// A write cycle lasts 164 ticks (bench).
+pub const CYCLE_TICKS: u8 = 164;
+
+// OSCON sets at the 32nd asked tick.
+pub const STARTUP_TICKS: u8 = 32;
+
+// 32,768 ticks are a second, and the divider stays below.
+pub const DIVIDER_TICKS: u32 = 32768;
+
+pub const DIVIDER_LAST: u16 = (DIVIDER_TICKS - 1) as u16;
+
+// The pulse on WDO, 122 us and 125 ms.
+pub const SHORT_PULSE: u16 = 4;
+
+pub const LONG_PULSE: u16 = 4096;
+
+// The watchdog's delay, 64 s.
+pub const DELAY_TICKS: u32 = 2097152;
+
+// The longest wait.
+pub const WAIT_LIMIT: u64 = 16777216;
+
+// The period that a value of 0Ah sets.
+pub fn period(v: u8) -> u32
+    ensures { λ r. ⌜ r ≡ periodOf v ⌝ }
+{
+    let i = (v % 8) as usize;
+    PERIODS[i]
+}
