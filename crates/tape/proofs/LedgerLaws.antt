@@ -6,7 +6,6 @@ use mathlib.Core.Bool.{true, false, true≢false}
 use mathlib.Core.List.{List, [], _∷_, _++_}
 use Prim.Native.Nat.{ℕ}
 use lib.Dec.{eqb}
-use Rattle.base.specs.Words.{pick}
 use Rattle.base.proofs.Tests.{by-cases, yes, no, pick-when}
 use Rattle.record.specs.declared.Act.{Act}
 use Rattle.record.specs.declared.Act.the-variants.{Select, Byte, End, Wait, Cut, Up}
@@ -23,7 +22,7 @@ use Rattle.text.specs.declared.Request.{Request}
 use Rattle.text.specs.declared.Request.the-variants.{PartLine, ActLine, Bad}
 use Rattle.text.specs.Request.{requestOf}
 use Rattle.text.specs.Print.{shown, z, outOf}
-use Rattle.tape.specs.Answer.{Setup, setup, noPart, Answered, answer, refusedLine, outcomeAnswer, freshSetup, requestAnswer, lineAnswer}
+use Rattle.tape.specs.Answer.{Setup, setup, noPart, Answered, refusedLine, outcomeAnswer, freshSetup, requestAnswer, lineAnswer}
 use Rattle.tape.specs.Tape.{linesFrom}
 use Rattle.tape.specs.Steps.{setupAfter, ticksOf, ticksPrinted, stepOf, stepsFrom, TapeAccounted, BytesAccounted}
 use Rattle.tape.proofs.WholeLaws.{setup-lines}
@@ -64,7 +63,7 @@ printed part Up n w = refl
 module _ (part : ℕ) (some : eqb part 0 ≡ false) where
   line-setup : (r : Request) (w : World) → requestAnswer r (setup part w) .after ≡ setup part (worldAfter ourChip part (inputOf r) w)
   unfolding worldAfter ourChip
-  line-setup (PartLine n) w = ap (λ (a : Answered). a .after) (sym (no (pick (isPart n) (answer 0 z (freshSetup n)) (refusedLine 3 (setup part w))) (refusedLine 7 (setup part w)) some))
+  line-setup (PartLine n) w = ap (λ (a : Answered). a .after) (sym (no _ (refusedLine 7 (setup part w)) some))
   line-setup (ActLine a n) w =
       ap (λ (x : Answered). x .after) (sym (no (refusedLine 7 (setup part w)) (outcomeAnswer part a (performed part a n w)) some))
   line-setup Bad w = refl

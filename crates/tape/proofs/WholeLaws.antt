@@ -16,8 +16,8 @@ use Rattle.device.specs.World.{World}
 use Rattle.text.specs.declared.Request.{Request}
 use Rattle.text.specs.declared.Request.the-variants.{PartLine, ActLine, Bad}
 use Rattle.text.specs.Request.{requestOf}
-use Rattle.text.specs.Print.{newline, answerRoom, z}
-use Rattle.tape.specs.Answer.{Setup, setup, Answered, answer, refusedLine, freshSetup, requestAnswer, lineAnswer, answerText}
+use Rattle.text.specs.Print.{newline, answerRoom}
+use Rattle.tape.specs.Answer.{Setup, setup, Answered, refusedLine, requestAnswer, lineAnswer, answerText}
 use Rattle.tape.specs.Tape.{lastLine, linesFrom, answersTo, tapeAnswers, emptySetup, State, state, kept, Fed, fedTo, ended, fedByte, after, fed, finished, answersFrom, takenWithin}
 use Rattle.tape.specs.Steps.{setupAfter}
 use Rattle.tape.proofs.TapeLaws.{after-join, kept-join, kept-answers, fed-none}
@@ -98,8 +98,8 @@ before-part :
     ≡ answerText (requestAnswer r (setup 0 w)) ++ answersTo (requestAnswer r (setup 0 w) .after) lines
 unfolding answerText
 before-part (PartLine n) lines v w e =
-    same-choice (λ (a : Answered). answerText a ++ answersTo (a .after) lines) (isPart n) (answer 0 z (freshSetup n)) (refusedLine 3 (setup 0 v))
-    (refusedLine 3 (setup 0 w)) (ap (λ (l : List ℕ). answerText (refusedLine 3 (setup 0 v)) ++ l) e)
+    same-choice (λ (a : Answered). answerText a ++ answersTo (a .after) lines) (isPart n) _ _ _
+    (ap (λ (l : List ℕ). answerText (refusedLine 3 (setup 0 v)) ++ l) e)
 before-part (ActLine a n) lines v w e = ap (λ (l : List ℕ). answerText (refusedLine 7 (setup 0 v)) ++ l) e
 before-part Bad lines v w e = ap (λ (l : List ℕ). answerText (refusedLine 7 (setup 0 v)) ++ l) e
 
