@@ -2,15 +2,14 @@
 -- Assumes nothing.
 use Prim.Native.Nat.{ℕ, _<_}
 use mathlib.Core.Path.{_≡_, refl, sym, ap, subst, _∙_}
-use mathlib.Core.Bool.{Bool, true}
-use mathlib.Core.List.{List}
+use mathlib.Core.Bool.{Bool}
 use borrow.Author.Tests.{not-false}
 use lib.ListN.{length}
 use Rattle.record.specs.declared.Act.{Act}
 use Rattle.record.specs.declared.Act.the-variants.{Select, Byte, End, Wait, Cut, Up}
 use Rattle.record.specs.declared.Device.{Device}
 use Rattle.record.specs.declared.Load.{Load}
-use Rattle.record.specs.Part.{isPart, topOf, bootsOf}
+use Rattle.record.specs.Part.{topOf, bootsOf}
 use Rattle.refusals.specs.InRange.{InRange}
 use Rattle.refusals.proofs.TableLaws as table
 use Rattle.device.specs.World.{World}

@@ -10,7 +10,7 @@ use Rattle.record.specs.declared.Act.{Act}
 use Rattle.record.specs.declared.Act.the-variants.{Select, Byte, End, Wait, Cut, Up}
 use Rattle.record.specs.declared.Device.{Device}
 use Rattle.record.specs.declared.Reply.{Reply}
-use Rattle.record.specs.declared.Reply.the-variants.{Driven, Off}
+use Rattle.record.specs.declared.Reply.the-variants.{Off}
 use Rattle.record.specs.Part.{topOf, bootsOf}
 use Rattle.refusals.specs.Refusal.{refusalOf}
 use Rattle.device.specs.World.{World, world}

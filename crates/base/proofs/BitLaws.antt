@@ -1,7 +1,7 @@
 -- Laws of bits: a mask of one bit tests it, a mask of the lowest bits keeps what is below it, the count of ones is the number of members.
 -- Assumes nothing.
 use mathlib.Core.Path.{_≡_, refl, sym, ap, _∙_}
-use mathlib.Core.Bool.{Bool, true, false, Bool·beq, _&&_, _||_}
+use mathlib.Core.Bool.{false, Bool·beq, _&&_, _||_}
 use Prim.Native.Nat.{ℕ, _-_, _/_, _%_, _<_, _^_, min, max}
 use native.Mathlib.Omega.{arith}
 use lib.Dec.{eqb, ltb}

@@ -1,13 +1,12 @@
 -- The output lines, WIP and STATUS, as functions of the record. Document 01, "Calendar and ticks" and "Frames".
 -- Assumes nothing.
 use Prim.Native.Nat.{ℕ, _+_, _*_}
-use mathlib.Core.Bool.{Bool, true, false, not, _&&_, _||_, Bool·beq}
+use mathlib.Core.Bool.{Bool, not, _&&_, _||_, Bool·beq}
 use mathlib.Core.List.{List}
 use lib.Dec.{ltb}
 use lib.ListN.{getD}
 use Rattle.base.specs.Words.{bit, flag}
 use Rattle.record.specs.declared.Device.{Device}
-use Rattle.record.specs.declared.Protection.{Protection}
 use Rattle.record.specs.Registers.{controlAt}
 use Rattle.record.specs.Numbers.{protectionNumber}
 

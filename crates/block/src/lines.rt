@@ -5,7 +5,7 @@ use record::registers::ALARM_1;
 use record::registers::CONTROL;
 ghost use mathlib.Core.Path.{_≡_};
 ghost use Rattle.base.specs.Words.{flag};
-ghost use Rattle.block.specs.Lines.{raised, irqLow, wdoLow, wip, changed, statusByte};
+ghost use Rattle.block.specs.Lines.{irqLow, wdoLow, wip, changed, statusByte};
 
 // IRQ is low.
 pub fn irq_low(d: Device) -> bool

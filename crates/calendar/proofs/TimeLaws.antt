@@ -13,7 +13,7 @@ use Rattle.calendar.specs.declared.Step.{Step}
 use Rattle.calendar.specs.declared.Date.{Date}
 use Rattle.calendar.specs.declared.Time.{Time}
 use Rattle.calendar.specs.Field.{nextField, onCarry, beside, besideStep}
-use Rattle.calendar.specs.Clock.{hundredthsFirst, hundredthsLast, secondsFirst, secondsLast, nextHundredths, nextSeconds, nextMinutes}
+use Rattle.calendar.specs.Clock.{hundredthsFirst, hundredthsLast, secondsFirst, secondsLast, nextSeconds, nextMinutes}
 use Rattle.calendar.specs.Hours.{hourFirst, hourLast, twelveHour, nextTwelve, nextHours}
 use Rattle.calendar.specs.Date.{yearFirst, yearLast, nextYear, monthStep, nextDate}
 use Rattle.calendar.specs.Time.{dateOf, withDate, onDay, hundredthsStep, secondsStep, minutesStep, hoursStep, clockAdvanced, advanced}

@@ -2,16 +2,14 @@
 -- The calendar is known by its promise alone.
 -- Assumes nothing.
 use Prim.Native.Nat.{ℕ, _+_, _*_, _/_, _%_}
-use mathlib.Core.Bool.{Bool, true, false, _&&_}
+use mathlib.Core.Bool.{Bool, _&&_}
 use mathlib.Core.List.{List}
 use lib.Dec.{ltb}
 use lib.ListN.{getD, set}
 use Rattle.base.specs.Words.{pick, bit}
 use Rattle.calendar.specs.declared.Time.{Time}
-use Rattle.calendar.specs.declared.Advanced.{Advanced}
 use Rattle.calendar.specs.Time.{advanced}
 use Rattle.record.specs.declared.Device.{Device}
-use Rattle.record.specs.declared.Counters.{Counters}
 use Rattle.record.specs.Registers.{hundredthsAt, secondsAt, minutesAt, hoursAt, dayAt, dateAt, monthAt, yearAt, dividerTicks}
 use Rattle.block.specs.Setters.{withCounters, withRegs}
 

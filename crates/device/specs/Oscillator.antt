@@ -1,13 +1,12 @@
 -- The oscillator's part of a tick. Document 01, "Calendar and ticks".
 -- Assumes nothing.
 use Prim.Native.Nat.{ℕ, _+_}
-use mathlib.Core.Bool.{Bool, true, false, _&&_, _||_}
+use mathlib.Core.Bool.{Bool, _&&_, _||_}
 use mathlib.Core.List.{List}
 use lib.Dec.{ltb}
 use lib.ListN.{getD}
 use Rattle.base.specs.Words.{pick, bit}
 use Rattle.record.specs.declared.Device.{Device}
-use Rattle.record.specs.declared.Counters.{Counters}
 use Rattle.record.specs.Registers.{secondsAt, startupTicks}
 use Rattle.block.specs.Setters.{withCounters}
 

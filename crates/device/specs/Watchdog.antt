@@ -1,14 +1,12 @@
 -- The watchdog's part of a tick. Document 01, "Calendar and ticks". `counted` says that OSCON was set before the tick.
 -- Assumes nothing.
 use Prim.Native.Nat.{ℕ, _+_, _-_}
-use mathlib.Core.Bool.{Bool, true, false, not, _&&_}
-use mathlib.Core.List.{List}
+use mathlib.Core.Bool.{Bool, not, _&&_}
 use lib.Dec.{ltb}
 use lib.Bits.{bitOr}
 use lib.ListN.{getD, set}
 use Rattle.base.specs.Words.{pick, bit}
 use Rattle.record.specs.declared.Device.{Device}
-use Rattle.record.specs.declared.Counters.{Counters}
 use Rattle.record.specs.Registers.{watchdogAt, periodOf, shortPulse, longPulse}
 use Rattle.block.specs.Setters.{withCounters, withRegs}
 

@@ -1,10 +1,8 @@
 -- A chip with the two memories that are lent to it, and what a write cycle puts into them.
 -- Document 01, "Frames" (a cycle's end) and "Power cut" (its mask): a finished cycle is one with every mask bit set.
 -- Assumes nothing.
-use Prim.Native.Nat.{ℕ, _-_}
-use mathlib.Core.Bool.{Bool, true, false}
+use Prim.Native.Nat.{ℕ}
 use mathlib.Core.List.{List}
-use lib.Dec.{ltb, eqb}
 use lib.Bits.{bitAnd}
 use Rattle.base.specs.Words.{pick, bit, flag, members, storeUnder}
 use Rattle.record.specs.declared.Device.{Device}

@@ -1,25 +1,23 @@
 -- The edges that document 01, "Edges to show", marks P, under one statement. It cites only definitions that the contracts of `perform` and
 -- of the calendar cite, and defines none. The acts begin at a fresh chip.
 -- Assumes nothing.
-use Prim.Native.Nat.{ℕ}
 use mathlib.Core.Path.{_≡_, refl}
 use mathlib.Core.Bool.{true, false}
-use mathlib.Core.List.{List}
 use lib.ListN.{getD, set, replicate}
-use Rattle.base.specs.Words.{every, storeUnder, members}
+use Rattle.base.specs.Words.{every, storeUnder}
 use Rattle.calendar.specs.Field.{validField, nextField}
 use Rattle.calendar.specs.Clock.{nextSeconds}
 use Rattle.calendar.specs.Hours.{nextHours}
 use Rattle.calendar.specs.Date.{leapYear, monthLength, nextDate}
 use Rattle.calendar.specs.Time.{dateOf, withDate, onDay, advanced}
-use Rattle.record.specs.declared.Act.the-variants.{Select, Byte, End, Wait, Cut, Up}
-use Rattle.record.specs.declared.Reply.the-variants.{Driven, Off}
+use Rattle.record.specs.declared.Act.the-variants.{Select, Byte, End, Wait}
+use Rattle.record.specs.declared.Reply.the-variants.{Driven}
 use Rattle.record.specs.Fresh.{fresh}
 use Rattle.refusals.specs.Range.{outOfRange, countersOut, frameOut, bitOutside}
 use Rattle.refusals.specs.Refusal.{refusalOf}
 use Rattle.device.specs.World.{World, world}
 use Rattle.block.specs.Registers.{readClock, writeClock, afterWrite}
-use Rattle.block.specs.Lines.{irqLow, wdoLow, changed, statusByte}
+use Rattle.block.specs.Lines.{irqLow, wdoLow, changed}
 use Rattle.device.specs.Oscillator.{oscillatorTick}
 use Rattle.device.specs.Watchdog.{watchdogTick}
 use Rattle.device.specs.Clock.{withTime, calendarTick}

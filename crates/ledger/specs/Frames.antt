@@ -3,7 +3,7 @@
 -- It gives no reply and knows neither registers nor SRAM: of a frame it keeps what a write, WEL and the lock need.
 -- Assumes nothing.
 use mathlib.Core.Bool.{Bool, true, false, not, _&&_, _||_}
-use mathlib.Core.List.{List, [], _∷_}
+use mathlib.Core.List.{[], _∷_}
 use Prim.Native.Nat.{ℕ, _+_, _-_, _*_, _/_, _%_}
 use lib.Dec.{leb, ltb, eqb}
 use Rattle.base.specs.Words.{pick}

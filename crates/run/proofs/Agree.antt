@@ -1,13 +1,12 @@
 -- When a chip with its memories and a ledger agree: a relation by cases of the frame's stage. The record has no field for the ledger's
 -- sake, and neither is computed from the other.
 -- Assumes nothing.
-use Prim.Native.Nat.{ℕ, _+_, _/_, _%_, _<_, _≤_}
+use Prim.Native.Nat.{ℕ, _/_, _%_, _<_}
 use mathlib.Core.Path.{_≡_}
-use mathlib.Core.Bool.{Bool, true, false}
+use mathlib.Core.Bool.{true, false}
 use mathlib.Core.List.{List, []}
-use lib.ListN.{length, getD}
+use lib.ListN.{getD}
 use Rattle.base.specs.Words.{bit}
-use Rattle.record.specs.declared.Device.{Device}
 use Rattle.record.specs.declared.Load.{Load}
 use Rattle.record.specs.declared.Cycle.{Cycle}
 use Rattle.record.specs.declared.Code.{Code}

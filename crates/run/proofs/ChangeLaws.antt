@@ -1,17 +1,17 @@
 -- A byte of a memory changes only at a wait that ended a cycle over it or at a cut that stored it.
 -- Assumes nothing.
-use Prim.Native.Nat.{ℕ, zero, suc, _+_, _<_, _≤_}
-use mathlib.Core.Path.{_≡_, refl, sym, ap, _∙_}
-use mathlib.Core.Bool.{Bool, true, false}
+use Prim.Native.Nat.{ℕ, zero, suc, _+_, _<_}
+use mathlib.Core.Path.{_≡_, refl, ap, _∙_}
+use mathlib.Core.Bool.{true, false}
 use mathlib.Core.Logic.{_⊎_, inl, inr, ⊎-elim, _≢_}
 use mathlib.Core.List.{List}
 use native.Mathlib.Omega.{arith}
 use borrow.Author.Tests.{eqb-true, eqb-false, ltb-true, ltb-false}
 use lib.Dec.{eqb, ltb}
 use lib.Bits.{bitAnd}
-use lib.ListN.{getD, set}
+use lib.ListN.{getD}
 use lib.Seq.{getD-set-other}
-use Rattle.base.specs.Words.{pick, bit, storeUnder}
+use Rattle.base.specs.Words.{bit, storeUnder}
 use Rattle.base.proofs.Tests.{by-cases}
 use Rattle.record.specs.declared.Act.{Act}
 use Rattle.record.specs.declared.Act.the-variants.{Select, Byte, End, Wait, Cut, Up}
@@ -28,7 +28,7 @@ use Rattle.frames.specs.Power.{cutWorld}
 use Rattle.acts.specs.Act.{accepted, refusalIn, performed}
 use Rattle.ledger.specs.State.{Memory, eeprom, id}
 use Rattle.run.specs.Wrong.{memoryOf}
-use Rattle.run.specs.Changes.{Covers, Writes, EndedOver, CutOver, ChangesOnly}
+use Rattle.run.specs.Changes.{Writes, EndedOver, CutOver, ChangesOnly}
 
 -- a place after a store: as it was, or one of the offsets in the set
 store-changed :

@@ -1,8 +1,7 @@
 -- A cut of a chip and of a ledger that agree leaves them in agreement.
 -- Assumes nothing.
-use Prim.Native.Nat.{ℕ, _+_, _<_, _≤_}
-use mathlib.Core.Path.{_≡_, refl, _∙_}
-use mathlib.Core.List.{List}
+use Prim.Native.Nat.{ℕ, _+_, _≤_}
+use mathlib.Core.Path.{refl}
 use native.Mathlib.Omega.{arith}
 use lib.ListN.{length, getD}
 use Rattle.record.specs.Part.{sizeOf, idSize}
@@ -16,7 +15,7 @@ use Rattle.ledger.specs.Steps.{onCut}
 use Rattle.acts.specs.Shape.{Shaped}
 use Rattle.acts.proofs.PageLaws.{page-fits}
 use Rattle.acts.proofs.AcceptedLaws.{whole-pages}
-use Rattle.run.proofs.Agree.{Agree, NoByte}
+use Rattle.run.proofs.Agree.{Agree}
 use Rattle.run.proofs.Entries.{Holds}
 use Rattle.run.proofs.Stored.{cut-eeprom, cut-id, cut-bp}
 

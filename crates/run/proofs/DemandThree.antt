@@ -1,16 +1,16 @@
 -- Demand 3, proved of our chip: after every list of acts from fresh, on every part, each EEPROM and ID byte is the ledger's.
 -- Assumes nothing.
-use Prim.Native.Nat.{ℕ, _<_}
-use mathlib.Core.Path.{_≡_, refl, sym, ap, _∙_}
+use Prim.Native.Nat.{ℕ}
+use mathlib.Core.Path.{_≡_, ap, _∙_}
 use mathlib.Core.Bool.{true}
 use mathlib.Core.List.{List, [], _∷_}
-use lib.ListN.{getD, replicate, getD-replicate}
+use lib.ListN.{getD-replicate}
 use Rattle.record.specs.Part.{isPart, sizeOf, idSize}
 use Rattle.device.specs.World.{World}
-use Rattle.ledger.specs.State.{Ledger, Memory, eeprom, id, start}
+use Rattle.ledger.specs.State.{Ledger, eeprom, id, start}
 use Rattle.ledger.specs.Bytes.{byteOf}
 use Rattle.ledger.specs.Steps.{ledgerRun}
-use Rattle.run.specs.Claim.{Input, Chip, ourChip, worldAfter, fed, freshWorld, Accounted, DemandThree}
+use Rattle.run.specs.Claim.{Input, ourChip, worldAfter, fed, freshWorld, DemandThree}
 use Rattle.run.proofs.Agree.{Agree}
 use Rattle.run.proofs.FreshAgrees.{fresh-agrees}
 use Rattle.run.proofs.StepAgrees.{step-agrees}

@@ -1,13 +1,13 @@
 -- A page stored into a memory and the entries that the ledger makes of it agree, at every place, and the other memory's places are untouched.
 -- Assumes nothing.
-use Prim.Native.Nat.{ℕ, zero, suc, _+_, _*_, _/_, _%_, _^_, min, _<_, _≤_}
+use Prim.Native.Nat.{ℕ, zero, suc, _+_, _<_, _≤_}
 use mathlib.Core.Path.{_≡_, refl, sym, ap, _∙_}
 use mathlib.Core.Bool.{Bool, true, false, _&&_, and-comm}
-use mathlib.Core.List.{List, [], _∷_}
+use mathlib.Core.List.{List, _∷_}
 use native.Mathlib.Omega.{arith}
-use borrow.Author.Tests.{eqb-true, eqb-false, eq-eqb, ne-eqb}
+use borrow.Author.Tests.{eqb-true, eqb-false}
 use lib.Dec.{eqb}
-use lib.Bits.{bitAnd, and-shr, and-step}
+use lib.Bits.{bitAnd}
 use lib.ListN.{length, getD, set}
 use lib.Seq.{getD-set-same, getD-set-other}
 use Rattle.base.specs.Words.{pick, bit, storeUnder}
@@ -16,7 +16,7 @@ use Rattle.base.proofs.BitLaws.{and-bit}
 use Rattle.base.proofs.StoreLaws.{store-length}
 use Rattle.record.specs.declared.Load.{Load}
 use Rattle.ledger.specs.State.{Memory, eeprom, id, Entry, Loaded}
-use Rattle.ledger.specs.Bytes.{isLoaded, loadedByte, takes, enter, entriesUnder, sameMemory, byteOf}
+use Rattle.ledger.specs.Bytes.{loadedByte, takes, entriesUnder, sameMemory, byteOf}
 use Rattle.run.proofs.Agree.{LoadAgrees}
 
 -- the memory m is what the entries say of the memory k, at each place below n; before is what a place held at the start

@@ -1,9 +1,9 @@
 -- A fresh chip and the ledger's start agree, on every part.
 -- Assumes nothing.
-use Prim.Native.Nat.{ℕ, _<_}
-use mathlib.Core.Path.{_≡_, refl, sym, ap, _∙_}
+use Prim.Native.Nat.{ℕ}
+use mathlib.Core.Path.{refl}
 use native.Mathlib.Omega.{arith}
-use lib.ListN.{length, getD, length-replicate, getD-replicate}
+use lib.ListN.{length-replicate}
 use Rattle.record.specs.Part.{sizeOf, idSize}
 use Rattle.record.specs.Fresh.{fresh}
 use Rattle.refusals.proofs.RangeLaws.{fresh-facts}

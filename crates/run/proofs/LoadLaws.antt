@@ -1,18 +1,17 @@
 -- Loads: a page that is empty, and one that takes a byte more, in the chip's set of offsets and in the ledger's list.
 -- Assumes nothing.
-use Prim.Native.Nat.{ℕ, max, _/_, _%_, _^_, _<_}
+use Prim.Native.Nat.{ℕ, _%_, _^_, _<_}
 use native.Mathlib.Omega.{arith}
-use mathlib.Core.Path.{_≡_, refl, sym, ap, _∙_}
-use mathlib.Core.Bool.{Bool, true, false, _||_, Bool·beq, false≢true, or-comm}
+use mathlib.Core.Path.{_≡_, sym, ap, _∙_}
+use mathlib.Core.Bool.{Bool, true, false, _||_, false≢true, or-comm}
 use mathlib.Core.List.{List, [], _∷_}
 use lib.Dec.{eqb}
-use lib.Bits.{bitOr, or-step, or-shr, or-add-and, and-le-l}
-use lib.Pow.{pow-pos}
+use lib.Bits.{bitOr}
 use lib.ListN.{length, getD, set}
 use lib.Seq.{getD-set-same, getD-set-other}
 use borrow.Author.Tests.{eqb-true, eqb-false}
-use Rattle.base.specs.Words.{pick, every, bit}
-use Rattle.base.proofs.Tests.{by-cases, same→eq, true-T}
+use Rattle.base.specs.Words.{pick, bit}
+use Rattle.base.proofs.Tests.{by-cases}
 use Rattle.base.proofs.BitLaws.{zero-bit, power-bit, or-bit, or-some}
 use Rattle.record.specs.declared.Load.{Load}
 use Rattle.frames.specs.Frame.{emptied, loadedWith}

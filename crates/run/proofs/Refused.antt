@@ -5,17 +5,15 @@ use mathlib.Core.Path.{_≡_, refl, sym, ap, _∙_}
 use mathlib.Core.Bool.{Bool, true, false, not, _||_}
 use mathlib.Core.Logic.{_≢_}
 use borrow.Author.Tests.{eq-eqb}
-use native.Mathlib.Omega.{arith}
 use lib.Dec.{eqb, ltb}
 use lib.ListN.{length}
 use Rattle.base.specs.Words.{pick}
-use Rattle.base.proofs.Tests.{by-cases, pick-case}
+use Rattle.base.proofs.Tests.{pick-case}
 use Rattle.record.specs.declared.Act.{Act}
 use Rattle.record.specs.declared.Act.the-variants.{Select, Byte, End, Wait, Cut, Up}
 use Rattle.record.specs.Part.{isPart, sizeOf, idSize}
 use Rattle.record.specs.Stages.{selected}
-use Rattle.refusals.specs.Range.{outOfRange}
-use Rattle.refusals.specs.Refusal.{wrongLength, wrongNumber, wrongPower, wrongSelect, refusalOf}
+use Rattle.refusals.specs.Refusal.{wrongNumber, wrongPower, wrongSelect, refusalOf}
 use Rattle.refusals.proofs.RangeLaws.{out-of-range}
 use Rattle.device.specs.World.{World}
 use Rattle.acts.specs.Act.{refusalIn}

@@ -3,19 +3,18 @@
 -- Assumes nothing.
 use Prim.Native.Nat.{ℕ}
 use mathlib.Core.Path.{_≡_, refl, sym, ap, _∙_}
-use mathlib.Core.Bool.{Bool, true, false, _||_}
+use mathlib.Core.Bool.{true, false, _||_}
 use mathlib.Core.Logic.{_≢_}
 use mathlib.Core.List.{List, [], _∷_, _++_}
 use borrow.Author.Tests.{eqb-false}
 use lib.Dec.{eqb}
-use Rattle.base.specs.Words.{pick}
-use Rattle.base.proofs.Tests.{by-cases, pick-when}
+use Rattle.base.proofs.Tests.{pick-when}
 use Rattle.record.specs.declared.Act.{Act}
 use Rattle.record.specs.declared.Act.the-variants.{Select, Byte, End, Wait, Cut, Up}
 use Rattle.record.specs.Part.{isPart}
 use Rattle.refusals.specs.InRange.{InRange}
 use Rattle.device.specs.World.{World}
-use Rattle.acts.specs.Act.{Outcome, accepted, refused, refusalIn, performed}
+use Rattle.acts.specs.Act.{Outcome, accepted, refusalIn, performed}
 use Rattle.ledger.specs.State.{Step, start}
 use Rattle.ledger.specs.Steps.{ledgerRun}
 use Rattle.run.specs.Claim.{Input, Chip, ourChip, worldAfter, fed, stepOf, freshWorld}

@@ -1,8 +1,8 @@
 -- One act keeps the agreement of a chip with its memories and a ledger, accepted or refused, whatever its number.
 -- Assumes nothing.
 use Prim.Native.Nat.{ℕ}
-use mathlib.Core.Path.{_≡_, refl, sym, ap, _∙_}
-use mathlib.Core.Bool.{Bool, true, false, not}
+use mathlib.Core.Path.{_≡_, refl, sym, _∙_}
+use mathlib.Core.Bool.{Bool, true, false}
 use native.Mathlib.Omega.{arith}
 use borrow.Author.Tests.{eqb-true, not-true, not-false}
 use lib.Dec.{eqb}
@@ -12,14 +12,11 @@ use Rattle.base.proofs.Tests.{by-cases}
 use Rattle.record.specs.declared.Act.{Act}
 use Rattle.record.specs.declared.Act.the-variants.{Select, Byte, End, Wait, Cut, Up}
 use Rattle.record.specs.Part.{isPart, bootsOf}
-use Rattle.record.specs.Stages.{selected}
-use Rattle.refusals.specs.InRange.{InRange}
 use Rattle.refusals.proofs.TableLaws as table
 use Rattle.device.specs.World.{World}
-use Rattle.acts.specs.Act.{Outcome, accepted, refusalIn, performed}
-use Rattle.acts.specs.Shape.{Shaped}
-use Rattle.acts.proofs.KeptLaws.{Kept, accepted-kept}
-use Rattle.ledger.specs.State.{Ledger, Step}
+use Rattle.acts.specs.Act.{accepted, refusalIn, performed}
+use Rattle.acts.proofs.KeptLaws.{accepted-kept}
+use Rattle.ledger.specs.State.{Ledger}
 use Rattle.ledger.specs.Steps as ledger
 use Rattle.run.specs.Claim.{usedBy, ourChip, named}
 use Rattle.run.proofs.Agree.{Agree}

@@ -1,11 +1,11 @@
 -- What a write cycle that ends or is cut leaves in the memories and the protection is what the ledger enters for it, under any mask.
 -- Assumes nothing.
 use Prim.Native.Nat.{ℕ, _+_, _<_, _≤_}
-use mathlib.Core.Path.{_≡_, refl, sym, ap, _∙_}
-use mathlib.Core.Bool.{Bool, true, false, _&&_, and-true}
+use mathlib.Core.Path.{_≡_, refl}
+use mathlib.Core.Bool.{true, false}
 use mathlib.Core.List.{List}
 use native.Mathlib.Omega.{arith}
-use borrow.Author.Tests.{eqb-true, eqb-false, eq-eqb, ne-eqb, lt-ltb, le-ltb}
+use borrow.Author.Tests.{eqb-true, eqb-false, lt-ltb, le-ltb}
 use lib.Dec.{eqb, ltb}
 use lib.ListN.{length}
 use Rattle.base.specs.Words.{pick, bit}
@@ -19,10 +19,10 @@ use Rattle.record.specs.Address.{pageOf}
 use Rattle.record.specs.Stages.{eepromIn, idIn}
 use Rattle.record.specs.Numbers.{protectionNumber}
 use Rattle.device.specs.World.{eepromAfter, idAfter, protectionAfter}
-use Rattle.ledger.specs.State.{Memory, eeprom, id, Entry, Kind, eepromCycle, idCycle, statusCycle}
+use Rattle.ledger.specs.State.{eeprom, id, Entry}
 use Rattle.ledger.specs.State as ledger
-use Rattle.ledger.specs.Bytes.{takes, entriesUnder, entriesOf, bpOf, entriesAfter, bpAfter}
-use Rattle.run.proofs.Agree.{LoadAgrees, TargetAgrees, CycleAgrees}
+use Rattle.ledger.specs.Bytes.{entriesOf, bpOf, entriesAfter, bpAfter}
+use Rattle.run.proofs.Agree.{TargetAgrees, CycleAgrees}
 use Rattle.run.proofs.Entries.{Holds, stored-page, other-memory}
 
 target-eeprom :

@@ -1,40 +1,36 @@
 -- A wait keeps the agreement: the ticks that it used come off the ledger's cycle, and where they end it the bytes that change are the
 -- ledger's entries.
 -- Assumes nothing.
-use Prim.Native.Nat.{ℕ, _+_, _-_, _<_, _≤_}
-use mathlib.Core.Path.{_≡_, refl, sym, ap, subst, _∙_}
-use mathlib.Core.Bool.{Bool, true, false, _&&_, _||_}
+use Prim.Native.Nat.{ℕ, _-_, _<_, _≤_}
+use mathlib.Core.Path.{_≡_, sym, ap, subst, _∙_}
+use mathlib.Core.Bool.{Bool, false, _&&_}
 use mathlib.Core.List.{List}
-use mathlib.Core.Logic.{_⊎_, inl, inr, ⊎-elim}
+use mathlib.Core.Logic.{inl, inr}
 use native.Mathlib.Omega.{arith}
-use borrow.Author.Tests.{eqb-true, eqb-false, ne-eqb, leb-true, leb-false, le-leb, ltb-true, ltb-false}
-use lib.Dec.{eqb, ltb, leb}
-use lib.ListN.{length, getD}
-use Rattle.base.specs.Words.{pick, bit}
-use Rattle.base.proofs.Tests.{by-cases, both-left, both-right, neither-left, true-false}
-use Rattle.record.specs.declared.Guard.{Guard}
+use borrow.Author.Tests.{ne-eqb, leb-true, leb-false, ltb-true, ltb-false}
+use lib.Dec.{eqb, leb}
+use lib.ListN.{getD}
+use Rattle.base.proofs.Tests.{by-cases, both-left, both-right}
 use Rattle.record.specs.declared.Lock.{Lock}
 use Rattle.record.specs.declared.Load.{Load}
 use Rattle.record.specs.declared.Frame.{Frame}
 use Rattle.record.specs.declared.Target.{Target}
 use Rattle.record.specs.declared.Target.the-variants.{Eeprom, Id, Status}
-use Rattle.record.specs.declared.Protection.{Protection}
 use Rattle.record.specs.Part.{sizeOf, idSize}
 use Rattle.record.specs.Stages.{selected}
 use Rattle.refusals.specs.InRange.{InRange}
 use Rattle.record.specs.Numbers.{protectionNumber}
-use Rattle.device.specs.World.{World, eepromAfter, idAfter, protectionAfter}
+use Rattle.device.specs.World.{World}
 use Rattle.device.specs.Tick.{Waited, waited}
 use Rattle.device.proofs.WaitLaws.{Spent, Unended, Ended, wait-spent}
 use Rattle.acts.specs.Shape.{Shaped}
 use Rattle.ledger.specs.State.{Ledger, eeprom, id, noCycle}
 use Rattle.ledger.specs.Frames.{running}
-use Rattle.ledger.specs.Bytes.{entriesAfter, bpAfter}
 use Rattle.ledger.specs.Steps as ledger
 use Rattle.ledger.specs.State as state
-use Rattle.run.proofs.Agree.{Agree, LockAgrees, FrameAgrees, TargetAgrees, CycleAgrees}
+use Rattle.run.proofs.Agree.{Agree, LockAgrees, FrameAgrees, TargetAgrees}
 use Rattle.run.proofs.Entries.{Holds}
-use Rattle.run.proofs.Stored.{running-of, still-of, cut-eeprom, cut-id, cut-bp}
+use Rattle.run.proofs.Stored.{cut-eeprom, cut-id, cut-bp}
 use Rattle.run.proofs.CutAgrees.{eeprom-fits, id-fits}
 
 -- fewer ticks left make no other cycle

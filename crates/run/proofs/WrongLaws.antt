@@ -1,27 +1,23 @@
 -- None of the wrong chips has demand 3: each is refuted by a closed run. And runs of our chip that store, program and forget.
 -- Assumes nothing.
 use Prim.Native.Nat.{ℕ, _<_}
-use mathlib.Core.Path.{_≡_, refl, sym, ap, _∙_}
+use mathlib.Core.Path.{_≡_, refl, sym, _∙_}
 use mathlib.Core.Bool.{false}
-use mathlib.Core.List.{List, [], _∷_}
+use mathlib.Core.List.{List}
 use native.Mathlib.Omega.{arith}
 use borrow.Author.Tests.{eqb-false}
 use lib.Dec.{eqb}
-use lib.ListN.{getD}
-use Rattle.record.specs.Part.{sizeOf}
 use Rattle.refusals.specs.Range.{outOfRange, countersOut, frameOut, bitOutside}
 use Rattle.refusals.specs.Refusal.{refusalOf}
 use Rattle.record.specs.Fresh.{fresh}
 use Rattle.base.specs.Words.{every, storeUnder, members}
-use Rattle.device.specs.World.{World}
-use Rattle.block.specs.Lines.{irqLow, wdoLow, changed, statusByte}
-use Rattle.block.specs.Registers.{readClock, writeClock, afterWrite}
+use Rattle.block.specs.Lines.{irqLow, wdoLow, changed}
 use Rattle.device.specs.Oscillator.{oscillatorTick}
 use Rattle.device.specs.Watchdog.{watchdogTick}
 use Rattle.device.specs.Clock.{calendarTick}
 use Rattle.device.specs.Tick.{cycleDevice, cycleTick, clockwork, tick, waited}
 use Rattle.frames.specs.Frame.{nextReply, afterByte, afterSelect}
-use Rattle.frames.specs.Power.{afterCut, cutCount, cutWorld, afterUp}
+use Rattle.frames.specs.Power.{afterCut, cutCount, cutWorld}
 use Rattle.ends.specs.End.{carried, cycleAfter, welAfter, afterEnd}
 use Rattle.acts.specs.Act.{performed}
 use Rattle.ledger.specs.State.{eeprom, id, noByte, noCycle, start}
@@ -29,8 +25,8 @@ use Rattle.ledger.specs.State as ledger
 use Rattle.ledger.specs.Frames as frames
 use Rattle.ledger.specs.Bytes as bytes
 use Rattle.ledger.specs.Steps as steps
-use Rattle.run.specs.Claim.{Chip, Input, DemandThree, Accounted, ourChip, worldAfter, fed, freshWorld}
-use Rattle.run.specs.Wrong.{kindChip, deafChip, emptyChip, masklessChip, locklessChip, sent, wholeCase, enableForgotten, cutWithNothing, lockForgotten, idProgrammed, Differs, Refutations, Witnesses}
+use Rattle.run.specs.Claim.{Chip, Input, DemandThree, ourChip, worldAfter, fed}
+use Rattle.run.specs.Wrong.{kindChip, deafChip, emptyChip, masklessChip, locklessChip, sent, wholeCase, enableForgotten, cutWithNothing, lockForgotten, Differs, Refutations, Witnesses}
 
 -- both statements compute
 computed : Refutations × Witnesses

@@ -3,9 +3,8 @@
 -- Assumes nothing.
 use Prim.Native.Nat.{ℕ, _+_, _<_}
 use mathlib.Core.Path.{_≡_}
-use mathlib.Core.Bool.{Bool, true, false}
+use mathlib.Core.Bool.{true}
 use mathlib.Core.Logic.{_⊎_, _≢_}
-use mathlib.Core.List.{List}
 use lib.Bits.{bitAnd}
 use lib.ListN.{getD}
 use Rattle.base.specs.Words.{bit}
@@ -18,7 +17,6 @@ use Rattle.record.specs.Address.{pageOf}
 use Rattle.refusals.specs.InRange.{InRange}
 use Rattle.device.specs.World.{World}
 use Rattle.acts.specs.Act.{performed}
-use Rattle.acts.specs.Shape.{Shaped}
 use Rattle.ledger.specs.State.{Memory, eeprom, id}
 use Rattle.run.specs.Wrong.{memoryOf}
 

@@ -13,7 +13,7 @@ use Rattle.record.specs.Part.{isPart, sizeOf, idSize}
 use Rattle.record.specs.Fresh.{fresh}
 use Rattle.device.specs.World.{World, world}
 use Rattle.acts.specs.Act.{performed}
-use Rattle.ledger.specs.State.{Step, Memory, eeprom, id, Ledger, start}
+use Rattle.ledger.specs.State.{Step, eeprom, id, Ledger, start}
 use Rattle.ledger.specs.Bytes.{byteOf}
 use Rattle.ledger.specs.Steps.{ledgerRun}
 

@@ -7,14 +7,13 @@ use mathlib.Core.Path.{_≡_}
 use lib.ListN.{getD}
 use Rattle.record.specs.declared.Act.{Act}
 use Rattle.record.specs.declared.Act.the-variants.{Select, Byte, End, Wait, Cut, Up}
-use Rattle.record.specs.declared.Guard.{Guard}
 use Rattle.record.specs.declared.Lock.the-variants.{Open}
 use Rattle.device.specs.World.{World, world}
 use Rattle.block.specs.Setters.{withGuard}
 use Rattle.ledger.specs.State.{Memory, eeprom, id, start}
 use Rattle.ledger.specs.Bytes.{byteOf}
 use Rattle.ledger.specs.Steps.{ledgerRun}
-use Rattle.run.specs.Claim.{Chip, Input, Stepped, ourChip, worldAfter, fed, freshWorld}
+use Rattle.run.specs.Claim.{Chip, Input, ourChip, worldAfter, fed, freshWorld}
 
 -- a chip with its memories whose WEL is set to a value, and one whose lock is open
 abbrev pub latchedAt : Bool → World → World

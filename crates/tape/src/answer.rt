@@ -14,7 +14,7 @@ ghost use Rattle.record.specs.Part.{idSize};
 ghost use Rattle.block.specs.Lines.{irqLow, wdoLow};
 ghost use Rattle.text.specs.Text.{buffer, append};
 ghost use Rattle.text.specs.Print.{outOf, answerLine, answerRoom};
-ghost use Rattle.tape.specs.Answer.{partAnswer, actAnswer, refusedLine, requestAnswer, lineAnswer, shownIn, shownBy, setupOf, eepromRoom};
+ghost use Rattle.tape.specs.Answer.{partAnswer, actAnswer, refusedLine, lineAnswer, shownIn, shownBy, setupOf, eepromRoom};
 
 // A level is high without a part, and where the chip does not hold it low.
 fn high(part: u64, low: bool) -> bool

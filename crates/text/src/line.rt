@@ -4,7 +4,6 @@ use crate::Request;
 use crate::number;
 use record::Act;
 ghost use mathlib.Core.Path.{_≡_};
-ghost use Prim.Native.Nat.{_≤_};
 ghost use lib.ListN.{length, take, drop};
 ghost use Rattle.text.specs.Text.{agreed, isWord, leading, between};
 ghost use Rattle.text.specs.Line.{opText, argText, nameSize, inForm, nameOf};

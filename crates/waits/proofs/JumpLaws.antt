@@ -1,25 +1,24 @@
 -- Laws of a jump: ticks in which only counts move leave what `jumped` says, change no line, and are passed over by a wait.
 -- Assumes nothing.
-use Prim.Native.Nat.{ℕ, zero, suc, _+_, _-_, _*_, _/_, _%_, min, _<_, _≤_}
+use Prim.Native.Nat.{ℕ, zero, suc, _+_, _-_, _*_, _/_, _%_, _<_, _≤_}
 use mathlib.Core.Path.{_≡_, refl, sym, ap, _∙_}
-use mathlib.Core.Bool.{Bool, true, false, not, _&&_, _||_}
-use mathlib.Core.Logic.{_⊎_, inl, inr, ⊎-elim, _≢_}
-use native.Mathlib.Numerals.{add-one}
+use mathlib.Core.Bool.{Bool, true, false, _&&_}
+use mathlib.Core.Logic.{_⊎_, inl, inr, ⊎-elim}
 use native.Mathlib.Omega.{arith}
-use borrow.Author.Tests.{ltb-true, ltb-false, lt-ltb, le-ltb, eqb-true, eqb-false, eq-eqb, ne-eqb}
+use borrow.Author.Tests.{ltb-true, lt-ltb, le-ltb, eqb-true, eqb-false, eq-eqb, ne-eqb}
 use lib.Dec.{ltb, eqb}
 use lib.ListN.{getD}
-use Rattle.base.specs.Words.{pick, bit}
-use Rattle.base.proofs.Tests.{by-cases, pick-case, pick-when, true-false, neither}
+use Rattle.base.specs.Words.{pick}
+use Rattle.base.proofs.Tests.{by-cases, pick-case, true-false, neither}
 use Rattle.record.specs.declared.Device.{Device}
 use Rattle.record.specs.declared.Counters.{Counters}
-use Rattle.record.specs.Registers.{watchdogAt, secondsAt, periodOf, startupTicks, dividerTicks}
-use Rattle.block.specs.Setters.{withCounters, withRegs}
+use Rattle.record.specs.Registers.{watchdogAt, periodOf, startupTicks, dividerTicks}
+use Rattle.block.specs.Setters.{withCounters}
 use Rattle.block.specs.Registers.{oscon}
 use Rattle.block.specs.Lines.{irqLow, wdoLow, wip, changed}
 use Rattle.device.specs.Oscillator.{asked, oscillatorTick}
-use Rattle.device.specs.Watchdog.{counting, pulseTick, watchdogTick}
-use Rattle.device.specs.Clock.{running, due, hundredthDue, dividerTick, calendarTick}
+use Rattle.device.specs.Watchdog.{watchdogTick}
+use Rattle.device.specs.Clock.{running, hundredthDue, calendarTick}
 use Rattle.device.specs.Tick.{withLeft, cycleDevice, alarmTick, clockwork, alive, deviceTick, DeviceWaited, plusDevice, deviceWaited}
 use Rattle.waits.specs.Jump.{Quiet, counts, runs, jumpedCounters, jumped, above, watched, gap, divided, quietTicks}
 use Rattle.block.proofs.LineLaws.{differ-same}

@@ -11,7 +11,6 @@ use lib.ListN.{getD}
 use Rattle.base.specs.Words.{pick}
 use Rattle.base.proofs.Tests.{no, pick-when, both-left, both-right}
 use Rattle.record.specs.declared.Device.{Device}
-use Rattle.record.specs.declared.Counters.{Counters}
 use Rattle.record.specs.Registers.{watchdogAt, startupTicks}
 use Rattle.block.specs.Setters.{withCounters}
 use Rattle.device.specs.Oscillator.{asked}
