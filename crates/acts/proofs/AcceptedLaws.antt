@@ -6,8 +6,7 @@ use mathlib.Core.Bool.{false}
 use Prim.Native.Nat.{ℕ, _+_, _%_, _<_, _≤_}
 use native.Mathlib.Omega.{arith}
 use borrow.Author.Tests.{ltb-false}
-use lib.Dec.{ltb, eqb, lit<}
-use Rattle.base.proofs.Tests.{pick-case}
+use lib.Dec.{ltb, lit<}
 use Rattle.record.specs.declared.Act.{Act}
 use Rattle.record.specs.declared.Act.the-variants.{Byte, End, Cut}
 use Rattle.record.specs.declared.Device.{Device}
@@ -15,10 +14,10 @@ use Rattle.record.specs.Address.{pageOf}
 use Rattle.refusals.specs.InRange.{InRange}
 use Rattle.record.specs.Part.{sizeOf, idSize}
 use Rattle.record.specs.Stages.{eepromAt, idAt, eepromIn, idIn}
+use Rattle.record.proofs.PartLaws.{whole-pages, page-fits}
 use Rattle.refusals.specs.Refusal.{refusalOf}
 use Rattle.refusals.proofs.RangeLaws.{in-range}
 use Rattle.refusals.proofs.TableLaws.{Accepted, accepted}
-use Rattle.acts.proofs.PageLaws.{page-fits}
 
 -- a number that its row lets through is its own byte
 byte-number : (most n : ℕ) → most < 256 → ltb most n ≡ false → n % 256 ≡ n
@@ -33,10 +32,6 @@ accepted-end part n d ee id e = byte-number 7 n (lit< tt) (accepted part End n d
 
 pub accepted-cut : (part n : ℕ) (d : Device) (ee id : ℕ) → refusalOf part Cut n d ee id ≡ 0 → n % 256 ≡ n
 accepted-cut part n d ee id e = byte-number 255 n (lit< tt) (accepted part Cut n d ee id e .number)
-
--- an EEPROM is whole pages
-pub whole-pages : (part : ℕ) → sizeOf part % 8 ≡ 0
-whole-pages part = pick-case (λ (top : ℕ). (top + 1) % 8 ≡ 0) (eqb (part % 2) 1) refl refl
 
 -- a record and memories of lengths ee and id
 pub record Suits (d : Device) (ee id : ℕ) : Type 0 where

@@ -1,3 +1,4 @@
 pub mod AcceptedLaws
 pub mod KeptLaws
 pub mod PageLaws
+pub mod OutcomeLaws

@@ -1,10 +1,14 @@
--- Laws of a store under a set: how a loop builds it, its length, and what a byte is after it.
+-- Laws of a store under a set: how a loop builds it, its length, what a byte is after it, and a store into a part of a list.
 -- Assumes nothing.
-use mathlib.Core.Path.{_≡_, refl, ap, _∙_}
-use mathlib.Core.List.{List, [], _∷_}
-use Prim.Native.Nat.{ℕ, zero, suc, _+_}
+use mathlib.Core.Path.{_≡_, refl, sym, ap, _∙_}
+use mathlib.Core.Bool.{Bool, true, false}
+use mathlib.Core.List.{List, [], _∷_, _++_}
+use Prim.Native.Nat.{ℕ, zero, suc, _+_, _<_, _≤_}
+use native.Mathlib.Nat.{zero-add, suc-add, not-suc-le-zero, le-of-suc-le-suc}
 use native.Mathlib.Numerals.{add-one}
-use lib.ListN.{length, getD, set, length-set}
+use native.Mathlib.Omega.{arith}
+use lib.ListN.{length, getD, set, take, replicate, length-set}
+use lib.Seq.{set-append-left}
 use Rattle.base.specs.Words.{pick, bit, storeUnder}
 use Rattle.base.proofs.Tests.{pick-case}
 
@@ -34,3 +38,41 @@ set-case P (x ∷ xs) zero zero v p q = p refl
 set-case P (x ∷ xs) zero (suc k) v p q = q
 set-case P (x ∷ xs) (suc i) zero v p q = q
 set-case P (x ∷ xs) (suc i) (suc k) v p q = set-case P xs i k v (λ e. p (ap suc e)) q
+
+set-right : (x y : List ℕ) (i v : ℕ) → set (x ++ y) (length x + i) v ≡ x ++ set y i v
+set-right [] y i v = ap (λ (k : ℕ). set y k v) (zero-add i)
+set-right (b ∷ x) y i v = ap (λ (k : ℕ). set (b ∷ (x ++ y)) k v) (suc-add (length x) i) ∙ ap (λ (l : List ℕ). b ∷ l) (set-right x y i v)
+
+pick-both : (f : List ℕ → List ℕ) (test : Bool) (u v u′ v′ : List ℕ) → u′ ≡ f u → v′ ≡ f v → pick test u′ v′ ≡ f (pick test u v)
+pick-both f true u v u′ v′ p q = p
+pick-both f false u v u′ v′ p q = q
+
+-- what is stored into the bytes of a first part, and into those behind it
+pub store-left :
+    (x y : List ℕ) (s : ℕ) (bytes : List ℕ) (n : ℕ) → n ≤ length x → storeUnder (x ++ y) 0 s bytes n ≡ storeUnder x 0 s bytes n ++ y
+unfolding storeUnder
+store-left x y s bytes zero h = refl
+store-left x y s bytes (suc n) h =
+    let e = store-left x y s bytes n (omega arith) in
+    let r = storeUnder x 0 s bytes n in
+    let i : 0 + n < length r = omega (arith, store-length x 0 s bytes n) in
+    pick-both (λ (l : List ℕ). l ++ y) (bit s n) (set r (0 + n) (getD bytes n 0)) r _ _
+    (ap (λ (l : List ℕ). set l (0 + n) (getD bytes n 0)) e ∙ set-append-left r y (0 + n) (getD bytes n 0) i)
+    e
+
+pub store-right :
+    (x y : List ℕ) (s : ℕ) (bytes : List ℕ) (n : ℕ) → storeUnder (x ++ y) (length x) s bytes n ≡ x ++ storeUnder y 0 s bytes n
+unfolding storeUnder
+store-right x y s bytes zero = refl
+store-right x y s bytes (suc n) =
+    let e = store-right x y s bytes n in
+    let r = storeUnder y 0 s bytes n in
+    pick-both (λ (l : List ℕ). x ++ l) (bit s n) (set r (0 + n) (getD bytes n 0)) r _ _
+    (ap (λ (l : List ℕ). set l (length x + n) (getD bytes n 0)) e ∙ set-right x r n (getD bytes n 0)
+    ∙ ap (λ (k : ℕ). x ++ set r k (getD bytes n 0)) (sym (zero-add n)))
+    e
+
+pub take-replicate : (k n v : ℕ) → k ≤ n → take k (replicate n v) ≡ replicate k v
+take-replicate zero n v h = refl
+take-replicate (suc k) zero v h = absurd (not-suc-le-zero h)
+take-replicate (suc k) (suc n) v h = ap (λ (s : List ℕ). v ∷ s) (take-replicate k n v (le-of-suc-le-suc h))

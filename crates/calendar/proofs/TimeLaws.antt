@@ -152,19 +152,6 @@ advanced-fits t f =
       year = year-byte t (f .year);
     }
 
-pub advanced-bytes : (t : Time) → TimeBytes t → TimeBytes (advanced t .time)
-advanced-bytes t f =
-    record {
-      hundredths = hundredths-byte t;
-      seconds = omega (arith, seconds-control t);
-      minutes = omega (arith, minutes-control t);
-      hours = omega (arith, hours-control t);
-      day = omega (arith, day-control t);
-      date = omega (arith, date-control t);
-      month = omega (arith, month-control t);
-      year = year-byte t (f .year);
-    }
-
 -- The bounds and the masks say the same of eight bytes.
 pub record TimeMasked (t : Time) : Type 0 where
   pub hundredths : bitAnd (t .hundredths) 0xff ≡ t .hundredths
@@ -187,19 +174,6 @@ masked-fits t b m =
       date = mask-below 6 (omega arith) (t .date) (b .date) (m .date);
       month = mask-below 5 (omega arith) (t .month) (b .month) (m .month);
       year = b .year;
-    }
-
-pub fits-bytes : (t : Time) → TimeFits t → TimeBytes t
-fits-bytes t f =
-    record {
-      hundredths = f .hundredths;
-      seconds = f .seconds;
-      minutes = omega arith;
-      hours = f .hours;
-      day = omega arith;
-      date = omega arith;
-      month = omega arith;
-      year = f .year;
     }
 
 pub fits-masked : (t : Time) → TimeFits t → TimeMasked t

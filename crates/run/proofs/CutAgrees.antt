@@ -13,8 +13,7 @@ use Rattle.frames.specs.Power.{afterCut, cutWorld}
 use Rattle.ledger.specs.State.{Ledger, noByte, noCycle}
 use Rattle.ledger.specs.Steps.{onCut}
 use Rattle.acts.specs.Shape.{Shaped}
-use Rattle.acts.proofs.PageLaws.{page-fits}
-use Rattle.acts.proofs.AcceptedLaws.{whole-pages}
+use Rattle.record.proofs.PartLaws.{whole-pages, page-fits}
 use Rattle.run.proofs.Agree.{Agree}
 use Rattle.run.proofs.Entries.{Holds}
 use Rattle.run.proofs.Stored.{cut-eeprom, cut-id, cut-bp}

@@ -1,27 +1,14 @@
 -- The parts' sizes and a byte taken as an address: the chip's top address and the ledger's size say the same.
 -- Assumes nothing.
-use Prim.Native.Nat.{ℕ, zero, suc, _*_, _/_, _%_}
+use Prim.Native.Nat.{ℕ, _*_, _/_, _%_}
 use native.Mathlib.Omega.{arith}
 use mathlib.Core.Path.{_≡_, refl, sym, ap}
-use mathlib.Core.Bool.{true, false≢true}
-use lib.Dec.{leb}
+use mathlib.Core.Bool.{true}
 use lib.Bits.{bitAnd, and-mask}
-use borrow.Author.Tests.{leb-true}
-use Rattle.base.proofs.Tests.{both-right}
 use Rattle.record.specs.Part.{isPart, topOf, sizeOf}
 use Rattle.record.specs.Address.{pageOf, offsetOf}
+use Rattle.record.proofs.PartLaws.{part-cases}
 use Rattle.ledger.specs.Frames.{eepromSize}
-
--- what holds of each of the four parts
-pub part-cases : (P : ℕ → Type 0) → P 1 → P 2 → P 3 → P 4 → (part : ℕ) → isPart part ≡ true → P part
-part-cases P a b c d zero e = absurd (false≢true e)
-part-cases P a b c d (suc zero) e = a
-part-cases P a b c d (suc (suc zero)) e = b
-part-cases P a b c d (suc (suc (suc zero))) e = c
-part-cases P a b c d (suc (suc (suc (suc zero)))) e = d
-part-cases P a b c d (suc (suc (suc (suc (suc n))))) e =
-    let m : ℕ = suc (suc (suc (suc (suc n)))) in
-    absurd (omega (arith, leb-true m 4 (both-right (leb 1 m) (leb m 4) e)))
 
 pub size-agrees : (part : ℕ) → isPart part ≡ true → eepromSize part ≡ sizeOf part
 size-agrees = part-cases (λ (part : ℕ). eepromSize part ≡ sizeOf part) refl refl refl refl

@@ -10,11 +10,11 @@ use borrow.Author.Tests.{eqb-false}
 use lib.Dec.{eqb}
 use Rattle.base.proofs.Tests.{pick-when}
 use Rattle.record.specs.declared.Act.{Act}
-use Rattle.record.specs.declared.Act.the-variants.{Select, Byte, End, Wait, Cut, Up}
 use Rattle.record.specs.Part.{isPart}
 use Rattle.refusals.specs.InRange.{InRange}
 use Rattle.device.specs.World.{World}
-use Rattle.acts.specs.Act.{Outcome, accepted, refusalIn, performed}
+use Rattle.acts.specs.Act.{Outcome, refusalIn, performed}
+use Rattle.acts.proofs.OutcomeLaws.{done-zero}
 use Rattle.ledger.specs.State.{Step, start}
 use Rattle.ledger.specs.Steps.{ledgerRun}
 use Rattle.run.specs.Claim.{Input, Chip, ourChip, worldAfter, fed, stepOf, freshWorld}
@@ -48,15 +48,6 @@ reached-agrees part p xs = run-agrees (freshWorld part) part p xs (freshWorld pa
 
 pub reached-in-range : (part : ℕ) → isPart part ≡ true → (xs : List Input) → InRange part (reached part xs .device)
 reached-in-range part p xs = reached-agrees part p xs .range
-
--- an accepted act is answered 0
-done-zero : (part n : ℕ) (w : World) (act : Act) → accepted part n w act .number ≡ 0
-done-zero part n w Select = refl
-done-zero part n w Byte = refl
-done-zero part n w End = refl
-done-zero part n w Wait = refl
-done-zero part n w Cut = refl
-done-zero part n w Up = refl
 
 not-answered :
     (part : ℕ) → isPart part ≡ true → (xs : List Input) (act : Act) (n k : ℕ) → (eqb k 0 || eqb k 1 || eqb k 2 || eqb k 3 || eqb k 5) ≡ false

@@ -1,19 +1,19 @@
 -- Laws of a line's answer as the code shows it: a refused line, a fresh chip, an act's outcome; and of the part of a lent EEPROM.
 -- Assumes nothing.
-use mathlib.Core.Path.{_≡_, refl, ap, _∙_}
+use mathlib.Core.Path.{_≡_, ap, _∙_}
 use mathlib.Core.Bool.{Bool, false, not, _||_}
-use mathlib.Core.List.{List, _∷_}
-use Prim.Native.Nat.{ℕ, zero, suc, _+_, _%_, _≤_}
-use native.Mathlib.Nat.{not-suc-le-zero, le-of-suc-le-suc}
-use native.Mathlib.Omega.{arith}
+use mathlib.Core.List.{List}
+use Prim.Native.Nat.{ℕ}
 use lib.Dec.{eqb}
 use lib.ListN.{take, replicate}
-use Rattle.base.proofs.Tests.{pick-case, pick-same}
+use Rattle.base.proofs.StoreLaws.{take-replicate}
+use Rattle.base.proofs.Tests.{pick-same}
 use Rattle.record.specs.declared.Act.{Act}
 use Rattle.record.specs.declared.Device.{Device}
 use Rattle.record.specs.declared.Reply.the-variants.{Off}
 use Rattle.record.specs.Part.{sizeOf, idSize}
 use Rattle.record.specs.Fresh.{fresh}
+use Rattle.record.proofs.PartLaws.{size-most}
 use Rattle.device.specs.World.{world}
 use Rattle.block.specs.Lines.{irqLow, wdoLow}
 use Rattle.acts.specs.declared.Answer.{Answer}
@@ -21,15 +21,6 @@ use Rattle.acts.specs.Act.{answered}
 use Rattle.text.specs.Text.{Buffer, append}
 use Rattle.text.specs.Print.{Out, z, counts, outOf, answerLine}
 use Rattle.tape.specs.Answer.{setup, setupOf, freshSetup, answer, refusedLine, outcomeAnswer, answerText, Shown, shownIn, eepromRoom}
-
--- a part's EEPROM is within the lent bytes
-pub size-within : (part : ℕ) → sizeOf part ≤ eepromRoom
-size-within part = pick-case (λ (top : ℕ). top + 1 ≤ eepromRoom) (eqb (part % 2) 1) (omega arith) (omega arith)
-
-take-replicate : (k n v : ℕ) → k ≤ n → take k (replicate n v) ≡ replicate k v
-take-replicate zero n v h = refl
-take-replicate (suc k) zero v h = absurd (not-suc-le-zero h)
-take-replicate (suc k) (suc n) v h = ap (λ (s : List ℕ). v ∷ s) (take-replicate k n v (le-of-suc-le-suc h))
 
 -- an answer's line with the levels of a part and a record
 abbrev pub lineOf : ℕ → Out → ℕ → Device → List ℕ
@@ -50,7 +41,7 @@ pub fresh-shown :
 unfolding answerText
 fresh-shown n d ee id o p f m k e =
     let q = e ∙ ap (λ (x : Device). append o (lineOf 0 z n x)) f in
-    let t = ap (take (sizeOf n)) m ∙ take-replicate (sizeOf n) eepromRoom 0xff (size-within n) in
+    let t = ap (take (sizeOf n)) m ∙ take-replicate (sizeOf n) eepromRoom 0xff (size-most n) in
     λ i. record { after = setup n (world (f i) (t i) (k i)); out = q i }
 
 pub outcome-shown :

@@ -10,13 +10,14 @@ use Rattle.base.proofs.Tests.{by-cases, yes, no, pick-when}
 use Rattle.record.specs.declared.Act.{Act}
 use Rattle.record.specs.declared.Act.the-variants.{Select, Byte, End, Wait, Cut, Up}
 use Rattle.record.specs.Part.{isPart}
+use Rattle.record.proofs.PartLaws.{part-cases}
 use Rattle.device.specs.World.{World}
-use Rattle.acts.specs.Act.{Outcome, performed, refusalIn, accepted, refused}
+use Rattle.acts.specs.Act.{Outcome, performed}
+use Rattle.acts.proofs.OutcomeLaws.{refused-count}
 use Rattle.ledger.specs.State.{Step, start}
 use Rattle.ledger.specs.Steps.{ledgerRun}
 use Rattle.run.specs.Claim.{Input, ourChip, worldAfter, fed, freshWorld, named, usedBy, Accounted, DemandThree}
 use Rattle.run.proofs.DemandThree.{demand-three}
-use Rattle.run.proofs.PartLaws.{part-cases}
 use Rattle.run.proofs.RunLaws.{after-append, fed-append}
 use Rattle.text.specs.declared.Request.{Request}
 use Rattle.text.specs.declared.Request.the-variants.{PartLine, ActLine, Bad}
@@ -43,13 +44,6 @@ wait-ticks o h =
     by-cases (eqb (o .number) 0)
     (λ e. ap ticksOf (sym (yes (shown (o .count)) z e)))
     (λ e. ap ticksOf (sym (no (shown (o .count)) z e)) ∙ sym (h e))
-
-refused-count : (part n : ℕ) (w : World) → eqb (performed part Wait n w .number) 0 ≡ false → performed part Wait n w .count ≡ 0
-unfolding performed
-refused-count part n w e =
-    by-cases (eqb (refusalIn part Wait n w) 0)
-    (λ t. absurd (true≢false (ap (λ (o : Outcome). eqb (o .number) 0) (yes (accepted part n w Wait) (refused (refusalIn part Wait n w) w) t) ∙ e)))
-    (λ t. ap (λ (o : Outcome). o .count) (sym (no (accepted part n w Wait) (refused (refusalIn part Wait n w) w) t)))
 
 printed : (part : ℕ) (a : Act) (n : ℕ) (w : World) → ticksPrinted a (outcomeAnswer part a (performed part a n w) .out) ≡ usedBy a (performed part a n w .count)
 printed part Select n w = refl

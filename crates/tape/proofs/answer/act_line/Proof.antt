@@ -12,7 +12,8 @@ use Rattle.acts.specs.Act.{Outcome, performed}
 use Rattle.base.proofs.Tests.{yes, no}
 use Rattle.text.specs.Text.{buffer}
 use Rattle.tape.specs.Answer.{outcomeAnswer, shownIn}
-use Rattle.tape.proofs.AnswerLaws.{size-within, outcome-shown}
+use Rattle.record.proofs.PartLaws.{size-most}
+use Rattle.tape.proofs.AnswerLaws.{outcome-shown}
 use borrow.Author.Needs.{needs}
 use Rattle.tape.proofs.answer.act_line.Statement.{statement}
 use Rattle.tape.proofs.answer.act_line.Tie as tie
@@ -25,7 +26,7 @@ returns c =
 slice-aggregate-perform : tie.Need-slice-aggregate-perform
 slice-aggregate-perform c =
     let b = c .before .before .before .before .before .before .before .before in
-    let l = size-within (b .args .p .part) in
+    let l = size-most (b .args .p .part) in
     sym (length-take-le (c .before .before .top .result + 1) (b .args .eeprom .now) (omega (arith, b .pre .0, l, c .before .before .top .ensures)))
 
 returns-2 : tie.Need-returns-2
@@ -38,7 +39,7 @@ returns-2 c =
     let ee = f .last .1 .1 .1 .1 .0 in
     let o = buffer (a .out .now) (a .p .at) in
     let s : k ≡ sizeOf (a .p .part) = ap (λ (n : ℕ). n + 1) (c .before .before .before .before .before .before .before .before .before .before .before .before .before .before .top .ensures) in
-    let w : k ≤ length (a .eeprom .now) = omega (arith, b .pre .0, s, size-within (a .p .part)) in
+    let w : k ≤ length (a .eeprom .now) = omega (arith, b .pre .0, s, size-most (a .p .part)) in
     let l : length ee ≡ sizeOf (a .p .part) = f .kept .1 .1 .1 .1 .0 ∙ length-take-le k (a .eeprom .now) w ∙ s in
     let t : take (sizeOf (a .p .part)) (ee ++ drop k (a .eeprom .now)) ≡ ee = take-at ee (drop k (a .eeprom .now)) (sizeOf (a .p .part)) l in
     outcome-shown (a .p .part) (a .act) (f .result) ee (ee ++ drop k (a .eeprom .now)) (f .last .1 .1 .1 .1 .1 .0) (c .before .before .before .before .before .counts-of .result) o
