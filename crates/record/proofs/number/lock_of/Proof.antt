@@ -1,0 +1,13 @@
+-- `record::number::lock_of` meets its contract.
+-- Assumes nothing.
+use borrow.Author.Tests.{ne-eqb}
+use Rattle.record.proofs.number.lock_of.Statement.{statement}
+use Rattle.record.proofs.number.lock_of.Tie as tie
+
+pub lock-of-spec : {M : Type 1} → statement M
+lock-of-spec =
+    tie.close
+    (tie.spec
+    (λ c. simp (c .match .keys1))
+    (λ c. simp (c .match .keys2))
+    (λ c. simp (ne-eqb _ 0 (c .match .rest .0 .1), ne-eqb _ 1 (c .match .rest .1))))
