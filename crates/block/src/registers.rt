@@ -3,12 +3,20 @@ use record::ClockAddress;
 use record::Counters;
 use record::Device;
 use record::registers::HOURS;
+use record::registers::STARTUP_TICKS;
 use record::registers::WRITABLE;
 use record::registers::YEAR;
 ghost use mathlib.Core.Path.{_≡_};
 ghost use Prim.Native.Nat.{_<_};
 ghost use Rattle.base.specs.Words.{pick};
-ghost use Rattle.block.specs.Registers.{made, readClock, afterWrite, writeRegister, writeClock};
+ghost use Rattle.block.specs.Registers.{oscon, made, readClock, afterWrite, writeRegister, writeClock};
+
+// The start-up count has come to its end.
+pub fn is_oscon(c: Counters) -> bool
+    ensures { λ r. ⌜ r ≡ oscon c ⌝ }
+{
+    c.startup == STARTUP_TICKS
+}
 
 fn bits_if(test: bool, v: u8) -> u8
     ensures { λ r. ⌜ r ≡ pick test v 0 ⌝ }
@@ -23,7 +31,7 @@ fn made_bits(d: Device, at: ClockAddress) -> u8
     let a = at.0;
     if a == 0x04 {
         let c = d.counters;
-        return bits_if(c.startup == record::registers::STARTUP_TICKS, 0x20);
+        return bits_if(is_oscon(c), 0x20);
     }
     if a == 0x06 {
         return bits_if(calendar::leap(d.regs[YEAR]), 0x20);

@@ -12,7 +12,7 @@ use record::registers::SECONDS;
 use record::registers::YEAR;
 ghost use mathlib.Core.Path.{_≡_};
 ghost use Prim.Native.Nat.{_<_};
-ghost use Rattle.device.specs.Clock.{timeOf, withTime, hundredthDue, dividerTick, calendarTick};
+ghost use Rattle.device.specs.Clock.{timeOf, withTime, hundredthDue, running, dividerTick, calendarTick};
 ghost use Rattle.device.specs.Tick.{alarmTick};
 
 fn time_of(regs: [u8; 32]) -> Time
@@ -66,12 +66,19 @@ fn divider_tick(runs: bool, d: Device) -> Device
     d
 }
 
+// Divider and calendar run: ST is set, and the tick is counted.
+pub fn is_running(counted: bool, d: Device) -> bool
+    ensures { λ r. ⌜ r ≡ running counted d ⌝ }
+{
+    counted & (d.regs[SECONDS] / 128 % 2 == 1)
+}
+
 // Calendar, then alarms over the registers as it left them.
 pub fn clock_tick(counted: bool, d: Device) -> Device
     ensures { λ r. ⌜ r ≡ alarmTick counted d (calendarTick counted d) ⌝ }
 {
     let c = d.counters;
-    let runs = counted & (d.regs[SECONDS] / 128 % 2 == 1);
+    let runs = is_running(counted, d);
     let due = runs & hundredth_due(c.divider);
     let moved = divider_tick(runs, d);
     if due {

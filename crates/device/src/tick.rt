@@ -78,7 +78,7 @@ fn clockwork_tick(boots: bool, d: Device) -> Device
     ensures { λ r. ⌜ r ≡ clockwork boots d ⌝ }
 {
     let c = d.counters;
-    let counted = c.startup == record::registers::STARTUP_TICKS;
+    let counted = block::registers::is_oscon(c);
     let asked = crate::oscillator::oscillator_tick(boots, d);
     let watched = crate::watchdog::watchdog_tick(counted, asked);
     crate::clock::clock_tick(counted, watched)

@@ -5,7 +5,7 @@ use record::registers::LONG_PULSE;
 use record::registers::SHORT_PULSE;
 use record::registers::WATCHDOG;
 ghost use mathlib.Core.Path.{_≡_};
-ghost use Rattle.device.specs.Watchdog.{pulseTick, timeOut, countedTick, watchdogTick};
+ghost use Rattle.device.specs.Watchdog.{counting, pulseTick, timeOut, countedTick, watchdogTick};
 
 // A pulse that runs loses one at every tick.
 fn pulse_tick(d: Device) -> Device
@@ -61,12 +61,19 @@ fn counted_tick(d: Device) -> Device
     time_out(d)
 }
 
+// The watchdog counts: WDTEN is set, WDTIF clear, and the tick is counted.
+pub fn is_counting(counted: bool, v: u8) -> bool
+    ensures { λ r. ⌜ r ≡ counting counted v ⌝ }
+{
+    ((v / 128 % 2 == 1) & !(v / 64 % 2 == 1)) & counted
+}
+
 pub fn watchdog_tick(counted: bool, d: Device) -> Device
     ensures { λ r. ⌜ r ≡ watchdogTick counted d ⌝ }
 {
     let v = d.regs[WATCHDOG];
     let pulsed = pulse_tick(d);
-    let counts = (v / 128 % 2 == 1) & !(v / 64 % 2 == 1) & counted;
+    let counts = is_counting(counted, v);
     if counts {
         return counted_tick(pulsed);
     }

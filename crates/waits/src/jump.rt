@@ -1,7 +1,6 @@
 // Ticks in which only counts move, taken at once.
 use record::Cycle;
 use record::Device;
-use record::registers::SECONDS;
 use record::registers::STARTUP_TICKS;
 use record::registers::WATCHDOG;
 ghost use mathlib.Core.Path.{_≡_};
@@ -30,17 +29,16 @@ fn least(a: u64, b: u64) -> u64
 fn watchdog_counts(d: Device) -> bool
     ensures { λ r. ⌜ r ≡ counts d ⌝ }
 {
-    let c = d.counters;
-    let v = d.regs[WATCHDOG];
-    ((v / 128 % 2 == 1) & !(v / 64 % 2 == 1)) & (c.startup == STARTUP_TICKS)
+    let counted = block::registers::is_oscon(d.counters);
+    device::watchdog::is_counting(counted, d.regs[WATCHDOG])
 }
 
 // Divider and calendar run.
 fn clock_runs(d: Device) -> bool
     ensures { λ r. ⌜ r ≡ runs d ⌝ }
 {
-    let c = d.counters;
-    (c.startup == STARTUP_TICKS) & (d.regs[SECONDS] / 128 % 2 == 1)
+    let counted = block::registers::is_oscon(d.counters);
+    device::clock::is_running(counted, d)
 }
 
 // How far a count may fall and stay above 0.
@@ -98,7 +96,7 @@ pub fn quiet_ticks(boots: bool, limit: u64, d: Device) -> u64
 {
     let c = d.counters;
     let y = d.cycle;
-    let asked = boots | (d.regs[SECONDS] / 128 % 2 == 1);
+    let asked = device::oscillator::is_asked(boots, d);
     if asked & (c.startup < STARTUP_TICKS) {
         return 0;
     }

@@ -6,7 +6,7 @@ use Rattle.block.proofs.registers.made_bits.Statement.{statement}
 use Rattle.block.proofs.registers.made_bits.Tie as tie
 
 returns : tie.Need-returns
-returns c = simp (eq-eqb _ _ (c .before .before .before .if1 .taken), c .bits-if .ensures)
+returns c = simp (eq-eqb _ _ (c .before .before .before .if1 .taken), c .bits-if .ensures, c .before .is-oscon .ensures)
 
 returns-2 : tie.Need-returns-2
 returns-2 c =
@@ -28,6 +28,7 @@ pub made-bits-spec : {M : Type 1} → statement M
 made-bits-spec =
     tie.close
     (tie.spec
+    (λ c κs. search needs)
     (λ c κs. search needs)
     returns
     (λ c. search needs)

@@ -12,23 +12,25 @@ use Rattle.device.proofs.oscillator.oscillator_tick.Tie as tie
 
 add-counters : tie.Need-add-counters
 add-counters c =
-    let a = c .before .before .before .before .before .args in
-    let n = a .t2 .counters .startup in
-    omega (arith, ltb-true n startupTicks (both-right (asked (a .boots) (a .t2 .regs)) (ltb n startupTicks) (c .before .if1 .taken)))
+    let b = c .before .before .before in
+    let a = b .before .before .args in
+    let n = a .d .counters .startup in
+    let h = simp (b .is-asked .ensures) at (c .before .if1 .taken) in
+    omega (arith, ltb-true n startupTicks (both-right (asked (a .boots) (a .d .regs)) (ltb n startupTicks) h))
 
 returns : tie.Need-returns
 unfolding oscillatorTick
-returns c = simp (c .before .if1 .taken)
+returns c = simp (simp (c .before .before .before .is-asked .ensures) at (c .before .if1 .taken))
 
 returns-2 : tie.Need-returns-2
 unfolding oscillatorTick
-returns-2 c = simp (c .if1 .left)
+returns-2 c = simp (simp (c .before .before .is-asked .ensures) at (c .if1 .left))
 
 pub oscillator-tick-spec : {M : Type 1} → statement M
 oscillator-tick-spec =
     tie.close
     (tie.spec
-    (λ c. search needs)
+    (λ c κs. search needs)
     add-counters
     returns
     returns-2)

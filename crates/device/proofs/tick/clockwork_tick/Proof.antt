@@ -7,12 +7,13 @@ use Rattle.device.proofs.tick.clockwork_tick.Tie as tie
 
 returns : tie.Need-returns
 unfolding clockwork
-returns c = simp (c .clock-tick .ensures, c .before .watchdog-tick .ensures, c .before .before .oscillator-tick .ensures)
+returns c = simp (c .clock-tick .ensures, c .before .watchdog-tick .ensures, c .before .before .oscillator-tick .ensures, c .before .before .before .is-oscon .ensures)
 
 pub clockwork-tick-spec : {M : Type 1} → statement M
 clockwork-tick-spec =
     tie.close
     (tie.spec
+    (λ c κs. search needs)
     (λ c κs. search needs)
     (λ c κs. search needs)
     (λ c κs. search needs)
