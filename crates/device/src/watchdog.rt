@@ -1,5 +1,4 @@
 // The watchdog's part of a tick: pulse, delay, count.
-use record::Counters;
 use record::Device;
 use record::registers::LONG_PULSE;
 use record::registers::SHORT_PULSE;
