@@ -1,10 +1,12 @@
--- Every accepted act leaves a record in range and every length what it was, on every part. Fresh is in range (record's RangeLaws).
+-- Every act, refused or not, leaves a record in range and every length what it was, on every part. Fresh is in range (record's RangeLaws).
 -- Assumes nothing.
 use Prim.Native.Nat.{ℕ, _<_}
 use mathlib.Core.Path.{_≡_, refl, sym, ap, subst, _∙_}
 use mathlib.Core.Bool.{Bool}
-use borrow.Author.Tests.{not-false}
+use borrow.Author.Tests.{eqb-true, not-false}
+use lib.Dec.{eqb}
 use lib.ListN.{length}
+use Rattle.base.proofs.Tests.{pick-when}
 use Rattle.record.specs.declared.Act.{Act}
 use Rattle.record.specs.declared.Act.the-variants.{Select, Byte, End, Wait, Cut, Up}
 use Rattle.record.specs.declared.Device.{Device}
@@ -21,7 +23,7 @@ use Rattle.frames.proofs.FrameLaws.{Sized, select-in-range, select-sized, byte-
 use Rattle.frames.proofs.PowerLaws.{cut-in-range, cut-sized, cut-device, cut-eeprom-length, cut-id-length, up-in-range, up-sized}
 use Rattle.ends.specs.End.{afterEnd}
 use Rattle.ends.proofs.EndLaws.{end-in-range, end-sram-length}
-use Rattle.acts.specs.Act.{accepted, refusalIn, moved}
+use Rattle.acts.specs.Act.{Outcome, accepted, refusalIn, performed, moved}
 use Rattle.acts.specs.Shape.{Shaped}
 
 pub record Kept (part : ℕ) (w : World) : Type 0 where
@@ -90,3 +92,12 @@ accepted-kept part Wait n w g s z =
     record { range = wait-in-range part n w g; shaped = wait-shaped (bootsOf part) part n w g s }
 accepted-kept part Cut n w g s z = cut-kept part n w g s
 accepted-kept part Up n w g s z = moved-kept part w _ s (up-in-range part (w .device) g) (up-sized (w .device) (sized s))
+
+-- every act, refused or not
+pub performed-kept :
+    (part : ℕ) (act : Act) (n : ℕ) (w : World) → InRange part (w .device) → Shaped part w → Kept part (performed part act n w .after)
+unfolding performed
+performed-kept part act n w g s =
+    pick-when (λ (o : Outcome). Kept part (o .after)) (eqb (refusalIn part act n w) 0)
+    (λ t. accepted-kept part act n w g s (eqb-true (refusalIn part act n w) 0 t))
+    (λ t. record { range = g; shaped = s })

@@ -1,26 +1,66 @@
--- Laws of a line's answer as the code shows it: a refused line, a fresh chip, an act's outcome; and of the part of a lent EEPROM.
+-- Laws of a line's answer: when it is 7; and as the code shows it: a refused line, a fresh chip, an act's outcome.
 -- Assumes nothing.
-use mathlib.Core.Path.{_≡_, ap, _∙_}
-use mathlib.Core.Bool.{Bool, false, not, _||_}
+use mathlib.Core.Path.{_≡_, refl, sym, ap, _∙_}
+use mathlib.Core.Logic.{_↔_}
+use mathlib.Core.Bool.{Bool, true, false, not, _||_}
 use mathlib.Core.List.{List}
-use Prim.Native.Nat.{ℕ}
+use Prim.Native.Nat.{ℕ, _<_}
+use native.Mathlib.Omega.{arith}
 use lib.Dec.{eqb}
 use lib.ListN.{take, replicate}
 use Rattle.base.proofs.StoreLaws.{take-replicate}
-use Rattle.base.proofs.Tests.{pick-same}
+use Rattle.base.proofs.Tests.{by-cases, yes, no, pick-case, pick-same}
 use Rattle.record.specs.declared.Act.{Act}
 use Rattle.record.specs.declared.Device.{Device}
 use Rattle.record.specs.declared.Reply.the-variants.{Off}
-use Rattle.record.specs.Part.{sizeOf, idSize}
+use Rattle.record.specs.Part.{isPart, sizeOf, idSize}
 use Rattle.record.specs.Fresh.{fresh}
 use Rattle.record.proofs.PartLaws.{size-most}
 use Rattle.device.specs.World.{world}
 use Rattle.block.specs.Lines.{irqLow, wdoLow}
 use Rattle.acts.specs.declared.Answer.{Answer}
-use Rattle.acts.specs.Act.{answered}
+use Rattle.acts.specs.Act.{performed, answered}
+use Rattle.acts.proofs.OutcomeLaws.{never-seven}
+use Rattle.text.specs.declared.Request.{Request}
+use Rattle.text.specs.declared.Request.the-variants.{PartLine, ActLine, Bad}
 use Rattle.text.specs.Text.{Buffer, append}
+use Rattle.text.specs.Request.{requestOf}
 use Rattle.text.specs.Print.{Out, z, counts, outOf, answerLine}
-use Rattle.tape.specs.Answer.{setup, setupOf, freshSetup, answer, refusedLine, outcomeAnswer, answerText, Shown, shownIn, eepromRoom}
+use Rattle.text.proofs.LineLaws.{bad-line}
+use Rattle.tape.specs.Answer.{Setup, setup, setupOf, noPart, freshSetup, Answered, answer, refusedLine, partAnswer, outcomeAnswer, actAnswer, requestAnswer, lineAnswer, SevenRow, bad, early, again, answerText, Shown, shownIn, eepromRoom}
+
+-- A part's line is answered 7 only after a part, an act's line only before one.
+part-below : (n : ℕ) (s : Setup) → noPart s ≡ true → partAnswer n s .number < 7
+part-below n s t = rw t (pick-case (λ (a : Answered). a .number < 7) (isPart n) (omega arith) (omega arith))
+
+act-below : (a : Act) (n : ℕ) (s : Setup) → noPart s ≡ false → actAnswer a n s .number < 7
+act-below a n s f = rw f (never-seven (s .part) a n (s .chip))
+
+part-seven : (line : List ℕ) (s : Setup) (n : ℕ) → requestOf line ≡ PartLine n → SevenRow line s → partAnswer n s .number ≡ 7
+part-seven line s n e (bad b) = absurd (let c = bad-line line .1 b in let z : _≡_ {A = ℕ} 0 1 = cc in omega arith)
+part-seven line s n e (early a m q t) = absurd (let z : _≡_ {A = ℕ} 0 1 = cc in omega arith)
+part-seven line s n e (again m q f) = ap (λ (x : Answered). x .number) (sym (no _ (refusedLine 7 s) f))
+
+act-seven : (line : List ℕ) (s : Setup) (a : Act) (n : ℕ) → requestOf line ≡ ActLine a n → SevenRow line s → actAnswer a n s .number ≡ 7
+act-seven line s a n e (bad b) = absurd (let c = bad-line line .1 b in let z : _≡_ {A = ℕ} 0 1 = cc in omega arith)
+act-seven line s a n e (early b m q t) = ap (λ (x : Answered). x .number) (sym (yes (refusedLine 7 s) _ t))
+act-seven line s a n e (again m q f) = absurd (let z : _≡_ {A = ℕ} 0 1 = cc in omega arith)
+
+seven-asked : (line : List ℕ) (s : Setup) (r : Request) → requestOf line ≡ r → (requestAnswer r s .number ≡ 7) ↔ SevenRow line s
+seven-asked line s (PartLine n) e = (
+  λ k. by-cases (noPart s) (λ t. absurd (omega (arith, k, part-below n s t))) (again n e),
+  part-seven line s n e,
+)
+seven-asked line s (ActLine a n) e = (
+  λ k. by-cases (noPart s) (early a n e) (λ f. absurd (omega (arith, k, act-below a n s f))),
+  act-seven line s a n e,
+)
+seven-asked line s Bad e = (λ k. bad (bad-line line .0 e), λ q. refl)
+
+-- number 7 is given exactly when the line is bad, or is an act's before a part, or a part's after one
+pub seven-exactly : (line : List ℕ) (s : Setup) → (lineAnswer line s .number ≡ 7) ↔ SevenRow line s
+unfolding lineAnswer
+seven-exactly line s = seven-asked line s (requestOf line) refl
 
 -- an answer's line with the levels of a part and a record
 abbrev pub lineOf : ℕ → Out → ℕ → Device → List ℕ

@@ -22,6 +22,7 @@ use Rattle.text.specs.Line.{lineLimit}
 use Rattle.text.specs.Request.{requestOf}
 use Rattle.text.specs.Print.{newline, answerRoom}
 use Rattle.text.proofs.TextLaws.{leading-first, leading-rest, leading-taken, leading-ends, leading-within, append-none, append-join}
+use Rattle.text.proofs.LineLaws.{long-bad}
 use Rattle.tape.specs.Answer.{Setup, requestAnswer, lineAnswer, Shown, shownIn, eepromRoom}
 use Rattle.tape.specs.Tape.{State, state, kept, keptLimit, Fed, fedTo, ended, fedByte, after, fed, finished, plain, takenWithin, Taken, putInto, roomIn, feedInto, buffersFit}
 
@@ -58,7 +59,7 @@ kept-asks l =
     (λ e.
     let h : keptLimit < length l = leb-false (length l) keptLimit e in
     let k : lineLimit < length (kept l) = simp length-take (omega arith) in
-    sym (yes Bad _ (lt-ltb lineLimit (length (kept l)) k)) ∙ yes Bad _ (lt-ltb lineLimit (length l) (omega arith)))
+    sym (yes Bad _ (long-bad (kept l) (lt-ltb lineLimit (length (kept l)) k))) ∙ yes Bad _ (long-bad l (lt-ltb lineLimit (length l) (omega arith))))
 
 pub kept-answers : (l : List ℕ) (s : Setup) → lineAnswer (kept l) s ≡ lineAnswer l s
 unfolding lineAnswer

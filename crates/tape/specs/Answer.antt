@@ -2,7 +2,8 @@
 -- 4 B 2K), once; else 7. One refused with 3 does not count." What an act does is not said here: it is the act's definition.
 -- Assumes nothing.
 use Prim.Native.Nat.{ℕ}
-use mathlib.Core.Bool.{Bool, not, _||_}
+use mathlib.Core.Path.{_≡_}
+use mathlib.Core.Bool.{Bool, true, false, not, _||_}
 use mathlib.Core.List.{List}
 use lib.Dec.{eqb}
 use lib.ListN.{take}
@@ -17,7 +18,7 @@ use Rattle.run.specs.Claim.{freshWorld}
 use Rattle.text.specs.declared.Request.{Request}
 use Rattle.text.specs.declared.Request.the-variants.{PartLine, ActLine, Bad}
 use Rattle.text.specs.Text.{Buffer, buffer, append}
-use Rattle.text.specs.Request.{requestOf}
+use Rattle.text.specs.Request.{badLine, requestOf}
 use Rattle.text.specs.Print.{Out, z, counts, outOf, answerLine}
 use Rattle.tape.specs.declared.Progress.{Progress}
 
@@ -67,6 +68,15 @@ requestAnswer Bad s = refusedLine 7 s
 
 unfoldable pub lineAnswer : List ℕ → Setup → Answered
 lineAnswer line s = requestAnswer (requestOf line) s
+
+-- 7 in the paper's words, apart from the choices above. That a line is answered 7 exactly then is proved in AnswerLaws.
+pub data SevenRow (line : List ℕ) (s : Setup) : Type 0 where
+  -- "a tape line not of the form below"
+  bad : badLine line ≡ true → SevenRow line s
+  -- "First comes `op=part`": an act's line before a part
+  early : (a : Act) (n : ℕ) → requestOf line ≡ ActLine a n → noPart s ≡ true → SevenRow line s
+  -- "once": a part's line after a part
+  again : (n : ℕ) → requestOf line ≡ PartLine n → noPart s ≡ false → SevenRow line s
 
 -- "without a part the levels are 1"
 abbrev pub irqHigh : Setup → Bool

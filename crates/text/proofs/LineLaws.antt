@@ -1,16 +1,17 @@
 -- Laws of lines: a name's text is that name and no other text is; a line is good exactly where it is the text of a name and a number.
 -- Assumes nothing.
 use mathlib.Core.Path.{_≡_, refl, sym, ap, _∙_}
-use mathlib.Core.Bool.{true, false, _&&_, true≢false}
+use mathlib.Core.Logic.{_↔_}
+use mathlib.Core.Bool.{true, false, not, _&&_, _||_, or-true, true≢false}
 use mathlib.Core.List.{List, [], _∷_, _++_, append-nil, append-assoc}
 use Prim.Native.Nat.{ℕ, suc, _<_, _≤_}
 use native.Mathlib.Nat.{suc-ne-zero, suc-inj, add-zero}
 use lib.Seq.{drop-length, take-append-seam, drop-append-seam}
 use native.Mathlib.Omega.{arith}
-use borrow.Author.Tests.{eq-eqb, eqb-true, lt-ltb, le-ltb, ltb-true}
+use borrow.Author.Tests.{eq-eqb, eqb-true, lt-ltb, le-ltb, ltb-true, not-false}
 use lib.Dec.{eqb, ltb}
 use lib.ListN.{length, take, drop, take-append-drop, length-append}
-use Rattle.base.proofs.Tests.{by-cases, pick-when, both-left, both-right, both-true, neither-left, neither}
+use Rattle.base.proofs.Tests.{by-cases, yes, no, pick-when, both-left, both-right, both-true, neither-left, neither-right, neither}
 use Rattle.record.specs.declared.Act.{Act}
 use Rattle.record.specs.declared.Act.the-variants.{Select, Byte, End, Wait, Cut, Up}
 use Rattle.text.specs.declared.Name.{Name}
@@ -19,7 +20,7 @@ use Rattle.text.specs.declared.Request.the-variants.{PartLine, ActLine, 
 use Rattle.text.specs.Text.{agreed, begins, isWord, leading, letter, digit}
 use Rattle.text.specs.Line.{lineLimit, tooLong, opText, argText, partText, actText, nameSize, nameText, afterOp, afterName, digitsText, inForm, nameOf, textOf}
 use Rattle.text.specs.Number.{digitLimit, needlessZero, tooManyDigits, badDigits, valueOf, decimalText}
-use Rattle.text.specs.Request.{asked, unknownName, requestOf, lineText}
+use Rattle.text.specs.Request.{asked, unknownName, badLine, requestOf, lineText}
 use Rattle.text.proofs.TextLaws.{leading-append}
 use Rattle.text.proofs.NumberLaws.{value-of-decimal, decimal-of-value, decimal-digits, decimal-some, decimal-needed}
 
@@ -138,6 +139,29 @@ form-pieces line f =
     (sym (take-append-drop (nameSize line) (afterOp line))
     ∙ ap (λ (s : List ℕ). nameText line ++ s) (agreed-with argText (afterName line) (f .arg)))
 
+-- each of the four tests makes a line bad, and nothing else does
+pub long-bad : (line : List ℕ) → tooLong line ≡ true → badLine line ≡ true
+unfolding badLine
+long-bad line e = rw e
+
+pub form-bad : (line : List ℕ) → inForm line ≡ false → badLine line ≡ true
+unfolding badLine
+form-bad line e = rw (e, or-true (tooLong line))
+
+pub name-bad : (line : List ℕ) → unknownName (nameOf (nameText line)) ≡ true → badLine line ≡ true
+unfolding badLine
+name-bad line e = rw (e, or-true (tooLong line || not (inForm line)))
+
+pub digits-bad : (line : List ℕ) → badDigits (digitsText line) ≡ true → badLine line ≡ true
+unfolding badLine
+digits-bad line e = rw e (or-true (tooLong line || not (inForm line) || unknownName (nameOf (nameText line))))
+
+pub none-bad :
+    (line : List ℕ) → tooLong line ≡ false → inForm line ≡ true → unknownName (nameOf (nameText line)) ≡ false → badDigits (digitsText line) ≡ false
+    → badLine line ≡ false
+unfolding badLine
+none-bad line l f u d = neither (neither (neither l (ap not f)) u) d
+
 -- a line that is not bad passed every test
 pub record Good (line : List ℕ) : Type 0 where
   pub short : tooLong line ≡ false
@@ -145,22 +169,45 @@ pub record Good (line : List ℕ) : Type 0 where
   pub known : unknownName (nameOf (nameText line)) ≡ false
   pub number : badDigits (digitsText line) ≡ false
 
+good-line : (line : List ℕ) → badLine line ≡ false → Good line
+unfolding badLine
+good-line line e =
+    let t1 = tooLong line in
+    let t2 = not (inForm line) in
+    let t3 = unknownName (nameOf (nameText line)) in
+    let t4 = badDigits (digitsText line) in
+    let e3 : (t1 || t2 || t3) ≡ false = neither-left (t1 || t2 || t3) t4 e in
+    let e2 : (t1 || t2) ≡ false = neither-left (t1 || t2) t3 e3 in
+    record {
+      short = neither-left t1 t2 e2;
+      form = in-form line (not-false (inForm line) (neither-right t1 t2 e2));
+      known = neither-right (t1 || t2) t3 e3;
+      number = neither-right (t1 || t2 || t3) t4 e;
+    }
+
 pub not-bad : (line : List ℕ) → (requestOf line ≡ Bad → ⊥) → Good line
 unfolding requestOf
-not-bad line g =
-    by-cases (tooLong line) (λ e. absurd (g (simp e)))
-    (λ e1.
-    by-cases (inForm line)
-    (λ e2.
-    by-cases (unknownName (nameOf (nameText line))) (λ e. absurd (g (simp (e1, e2, e))))
-    (λ e3.
-    by-cases (badDigits (digitsText line)) (λ e. absurd (g (simp (e1, e2, e3, e))))
-    (λ e4. record { short = e1; form = in-form line e2; known = e3; number = e4 })))
-    (λ e. absurd (g (simp (e1, e)))))
+not-bad line g = by-cases (badLine line) (λ e. absurd (g (sym (yes Bad _ e)))) (good-line line)
 
 pub good-asks : (line : List ℕ) → Good line → requestOf line ≡ asked (nameOf (nameText line)) (valueOf (digitsText line))
 unfolding requestOf
-good-asks line g = simp (g .short, form-in line (g .form), g .known, g .number)
+good-asks line g = sym (no Bad _ (none-bad line (g .short) (form-in line (g .form)) (g .known) (g .number)))
+
+-- a line asks for nothing exactly when it is bad
+asked-some : (x : Name) (n : ℕ) → unknownName x ≡ false → asked x n ≡ Bad → ⊥
+asked-some PartName n u e = let z : _≡_ {A = ℕ} 0 1 = cc in omega arith
+asked-some (ActName a) n u e = let z : _≡_ {A = ℕ} 0 1 = cc in omega arith
+asked-some Unknown n u e = true≢false u
+
+pub bad-line : (line : List ℕ) → (requestOf line ≡ Bad) ↔ (badLine line ≡ true)
+unfolding requestOf
+bad-line line = (
+  λ b. by-cases (badLine line) (λ e. e)
+      (λ e.
+      let g = good-line line e in
+      absurd (asked-some (nameOf (nameText line)) (valueOf (digitsText line)) (g .known) (sym (good-asks line g) ∙ b))),
+  λ e. sym (yes Bad _ e),
+)
 
 -- it is the text of its name and its number
 pub good-text : (line : List ℕ) → Good line → line ≡ lineText (nameOf (nameText line)) (valueOf (digitsText line))

@@ -2,7 +2,7 @@
 -- which comes last, wants what came before the line and is the tape's.
 -- Assumes nothing.
 use Prim.Native.Nat.{ℕ}
-use mathlib.Core.Bool.{Bool, true, false, not}
+use mathlib.Core.Bool.{Bool, true, false, not, _||_}
 use mathlib.Core.List.{List, _++_}
 use Rattle.base.specs.Words.{pick}
 use Rattle.text.specs.declared.Name.{Name}
@@ -23,12 +23,12 @@ unknownName PartName = false
 unknownName (ActName a) = false
 unknownName Unknown = true
 
+-- 7: "a tape line not of the form below", as far as the line tells by itself: one of the four tests fails
+unfoldable pub badLine : List ℕ → Bool
+badLine line = tooLong line || not (inForm line) || unknownName (nameOf (nameText line)) || badDigits (digitsText line)
+
 unfoldable pub requestOf : List ℕ → Request
-requestOf line =
-    pick (tooLong line) Bad
-    (pick (not (inForm line)) Bad
-    (pick (unknownName (nameOf (nameText line))) Bad
-    (pick (badDigits (digitsText line)) Bad (asked (nameOf (nameText line)) (valueOf (digitsText line))))))
+requestOf line = pick (badLine line) Bad (asked (nameOf (nameText line)) (valueOf (digitsText line)))
 
 -- the line of a name and a number
 abbrev pub lineText : Name → ℕ → List ℕ
