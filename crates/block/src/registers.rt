@@ -2,13 +2,21 @@
 use record::ClockAddress;
 use record::Counters;
 use record::Device;
+use record::registers::DAY;
 use record::registers::HOURS;
 use record::registers::WRITABLE;
 use record::registers::YEAR;
 ghost use mathlib.Core.Path.{_≡_};
 ghost use Prim.Native.Nat.{_<_};
 ghost use Rattle.base.specs.Words.{pick};
-ghost use Rattle.block.specs.Registers.{made, readClock, afterWrite, writeRegister, writeClock};
+ghost use Rattle.block.specs.Registers.{vbaten, made, readClock, afterWrite, writeRegister, writeClock};
+
+// VBATEN (04h bit 3) is set.
+pub fn battery_enabled(regs: [u8; 32]) -> bool
+    ensures { λ r. ⌜ r ≡ vbaten regs ⌝ }
+{
+    regs[DAY] / 8 % 2 == 1
+}
 
 fn bits_if(test: bool, v: u8) -> u8
     ensures { λ r. ⌜ r ≡ pick test v 0 ⌝ }
