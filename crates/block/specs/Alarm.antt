@@ -8,9 +8,9 @@ use lib.Bits.{bitOr}
 use lib.ListN.{getD, set}
 use Rattle.base.specs.Words.{pick}
 use Rattle.calendar.specs.declared.Advanced.{Advanced}
-use Rattle.record.specs.Registers.{hundredthsAt, secondsAt, minutesAt, hoursAt, dayAt, dateAt, monthAt}
+use Rattle.record.specs.Registers.{hundredthsAt, secondsAt, minutesAt, hoursAt, dayAt, dateAt, monthAt, alarm0At, alarm1At}
 use Rattle.block.specs.declared.alarm.Matches.{Matches}
-use Rattle.block.specs.Lines.{active, alarm0At, alarm1At}
+use Rattle.block.specs.Lines.{active}
 
 -- the low bits below w of two registers agree
 abbrev pub agree : ℕ → List ℕ → ℕ → ℕ → Bool

@@ -7,17 +7,10 @@ use lib.Dec.{ltb}
 use lib.ListN.{getD}
 use Rattle.base.specs.Words.{bit, flag}
 use Rattle.record.specs.declared.Device.{Device}
-use Rattle.record.specs.Registers.{controlAt}
+use Rattle.record.specs.Registers.{controlAt, alarm0At, alarm1At}
 use Rattle.record.specs.Numbers.{protectionNumber}
 
--- An alarm: its active bit in 08h, and the register of its flag (bit 3), its code (bits 6:4) and its pin (bit 7).
--- Alarm 0: bit 4 and 0Fh. Alarm 1: bit 5 and 16h.
-abbrev pub alarm0At : ℕ
-alarm0At = 0x0f
-
-abbrev pub alarm1At : ℕ
-alarm1At = 0x16
-
+-- An alarm: its active bit in 08h, and the register of its flag. Alarm 0: bit 4 and 0Fh. Alarm 1: bit 5 and 16h.
 -- "An alarm active in 08h (bit 4, bit 5)"
 abbrev pub active : List ℕ → ℕ → Bool
 active regs k = bit (getD regs controlAt 0) k

@@ -3,6 +3,7 @@
 -- Assumes nothing.
 use Prim.Native.Nat.{ℕ, _-_}
 use mathlib.Core.Bool.{Bool, not, _&&_}
+use mathlib.Core.List.{List}
 use lib.Dec.{ltb, eqb}
 use lib.Bits.{bitAnd, bitOr}
 use lib.ListN.{getD, set}
@@ -11,8 +12,12 @@ use Rattle.calendar.specs.Date.{leapYear}
 use Rattle.record.specs.declared.Device.{Device}
 use Rattle.record.specs.declared.Counters.{Counters}
 use Rattle.record.specs.declared.ClockAddress.{ClockAddress}
-use Rattle.record.specs.Registers.{secondsAt, hoursAt, yearAt, watchdogAt, writable, startupTicks, delayTicks}
+use Rattle.record.specs.Registers.{secondsAt, hoursAt, dayAt, yearAt, watchdogAt, writable, startupTicks, delayTicks}
 use Rattle.block.specs.Setters.{withRegs, withSram, withCounters}
+
+-- VBATEN is 04h bit 3
+abbrev pub vbaten : List ℕ → Bool
+vbaten regs = bit (getD regs dayAt 0) 3
 
 -- "OSCON, set while the start-up count is 32"
 abbrev pub oscon : Counters → Bool

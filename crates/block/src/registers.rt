@@ -2,6 +2,7 @@
 use record::ClockAddress;
 use record::Counters;
 use record::Device;
+use record::registers::DAY;
 use record::registers::HOURS;
 use record::registers::STARTUP_TICKS;
 use record::registers::WRITABLE;
@@ -9,13 +10,20 @@ use record::registers::YEAR;
 ghost use mathlib.Core.Path.{_≡_};
 ghost use Prim.Native.Nat.{_<_};
 ghost use Rattle.base.specs.Words.{pick};
-ghost use Rattle.block.specs.Registers.{oscon, made, readClock, afterWrite, writeRegister, writeClock};
+ghost use Rattle.block.specs.Registers.{oscon, vbaten, made, readClock, afterWrite, writeRegister, writeClock};
 
 // The start-up count has come to its end.
 pub fn is_oscon(c: Counters) -> bool
     ensures { λ r. ⌜ r ≡ oscon c ⌝ }
 {
     c.startup == STARTUP_TICKS
+}
+
+// VBATEN (04h bit 3) is set.
+pub fn battery_enabled(regs: [u8; 32]) -> bool
+    ensures { λ r. ⌜ r ≡ vbaten regs ⌝ }
+{
+    regs[DAY] / 8 % 2 == 1
 }
 
 fn bits_if(test: bool, v: u8) -> u8

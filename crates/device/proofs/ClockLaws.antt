@@ -16,9 +16,10 @@ use Rattle.calendar.specs.declared.Advanced.{Advanced}
 use Rattle.calendar.specs.Time.{advanced}
 use Rattle.calendar.proofs.TimeLaws.{st-stays, vbaten-stays}
 use Rattle.record.specs.declared.Device.{Device}
-use Rattle.record.specs.Registers.{secondsAt, dayAt}
+use Rattle.record.specs.Registers.{secondsAt, dayAt, alarm0At, alarm1At}
 use Rattle.block.specs.Setters.{withRegs}
-use Rattle.block.specs.Lines.{active, alarm0At, alarm1At}
+use Rattle.block.specs.Registers.{vbaten}
+use Rattle.block.specs.Lines.{active}
 use Rattle.block.specs.Alarm.{raise, match0, match1, alarmed}
 use Rattle.device.specs.Clock.{timeOf, withTime, running, due, dividerTick, calendarTick}
 use Rattle.device.specs.Tick.{alarmTick}
@@ -165,7 +166,7 @@ clock-st counted d = clock-bit counted d secondsAt 7 (omega arith) (st-stays (ti
 
 pub clock-vbaten :
     (counted : Bool) (d : Device)
-    → bit (getD (alarmTick counted d (calendarTick counted d) .regs) dayAt 0) 3 ≡ bit (getD (d .regs) dayAt 0) 3
+    → vbaten (alarmTick counted d (calendarTick counted d) .regs) ≡ vbaten (d .regs)
 clock-vbaten counted d = clock-bit counted d dayAt 3 (omega arith) (vbaten-stays (timeOf (d .regs)))
 
 -- the number of registers

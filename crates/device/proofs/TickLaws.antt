@@ -17,11 +17,12 @@ use Rattle.record.specs.declared.Cycle.{Cycle}
 use Rattle.record.specs.declared.Guard.{Guard}
 use Rattle.record.specs.Registers.{dayAt, watchdogAt, periodOf}
 use Rattle.block.specs.Setters.{withGuard}
-use Rattle.block.specs.Registers.{oscon}
+use Rattle.block.specs.Registers.{vbaten, oscon}
 use Rattle.device.specs.Oscillator.{oscillatorTick}
 use Rattle.device.specs.Watchdog.{counting, watchdogTick}
 use Rattle.device.specs.World.{World, wholeMask, eepromAfter, idAfter, protectionAfter}
-use Rattle.device.specs.Tick.{withLeft, cycleDevice, cycleTick, clockwork, alive, tick, deviceTick, ends}
+use Rattle.device.specs.Tick.{withLeft, cycleDevice, cycleTick, clockwork, alive, tick}
+use Rattle.device.specs.RecordTick.{deviceTick, ends}
 use Rattle.device.proofs.ClockLaws.{clock-vbaten}
 use Rattle.device.proofs.RegisterLaws.{oscillator-regs}
 use Rattle.device.proofs.KeepLaws.{ClockOnly, clockwork-keeps}
@@ -160,7 +161,7 @@ watchdog-day counted d =
     (set-case (λ (v : ℕ). v ≡ getD (d .regs) dayAt 0) (d .regs) watchdogAt dayAt _ (λ e. absurd (omega arith)) refl)))
     refl
 
-clockwork-vbaten : (boots : Bool) (d : Device) → bit (getD (clockwork boots d .regs) dayAt 0) 3 ≡ bit (getD (d .regs) dayAt 0) 3
+clockwork-vbaten : (boots : Bool) (d : Device) → vbaten (clockwork boots d .regs) ≡ vbaten (d .regs)
 unfolding clockwork
 clockwork-vbaten boots d =
     let o : Device = oscillatorTick boots d in
@@ -175,8 +176,8 @@ device-alive boots d =
     (λ a.
     let s : CycleStep (eqb (d .cycle .left) 1) d (cycleDevice d) = cycle-step d in
     let k : ClockOnly (cycleDevice d) (clockwork boots (cycleDevice d)) = clockwork-keeps boots (cycleDevice d) in
-    ap (λ (p : Bool). p || bit (getD (clockwork boots (cycleDevice d) .regs) dayAt 0) 3) (k .power ∙ s .power)
-    ∙ ap (λ (b : Bool). d .power || b) (clockwork-vbaten boots (cycleDevice d) ∙ ap (λ (l : List ℕ). bit (getD l dayAt 0) 3) (s .regs)))
+    ap (λ (p : Bool). p || vbaten (clockwork boots (cycleDevice d) .regs)) (k .power ∙ s .power)
+    ∙ ap (λ (b : Bool). d .power || b) (clockwork-vbaten boots (cycleDevice d) ∙ ap vbaten (s .regs)))
     (λ a. refl)
 
 pub tick-alive : (boots : Bool) (w : World) → alive (tick boots w .device) ≡ alive (w .device)

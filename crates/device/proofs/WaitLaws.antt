@@ -15,7 +15,8 @@ use Rattle.record.specs.declared.Device.{Device}
 use Rattle.refusals.specs.InRange.{InRange}
 use Rattle.block.specs.Lines.{irqLow, wdoLow, wip, differ, changed}
 use Rattle.device.specs.World.{World, wholeMask, eepromAfter, idAfter, protectionAfter}
-use Rattle.device.specs.Tick.{alive, tick, deviceTick, ends, Waited, plus, waited, ticks, DeviceWaited, plusDevice, deviceWaited, ended, settled}
+use Rattle.device.specs.Tick.{alive, tick, Waited, plus, waited, ticks}
+use Rattle.device.specs.RecordTick.{deviceTick, ends, DeviceWaited, plusDevice, deviceWaited, ended, settled}
 use Rattle.block.proofs.LineLaws.{differ-false, differ-same}
 use Rattle.device.proofs.TickLaws.{Ticked, ticked, tick-device, tick-eeprom, tick-id, tick-dead, tick-alive}
 

@@ -3,3 +3,4 @@ pub mod Watchdog
 pub mod Clock
 pub mod World
 pub mod Tick
+pub mod RecordTick

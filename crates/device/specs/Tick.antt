@@ -2,16 +2,14 @@
 -- cycle, oscillator, watchdog, calendar, alarms."
 -- Assumes nothing.
 use Prim.Native.Nat.{ℕ, zero, suc, _+_, _-_}
-use mathlib.Core.Bool.{Bool, false, not, _&&_, _||_}
+use mathlib.Core.Bool.{Bool, false, _||_}
 use lib.Dec.{eqb}
-use lib.ListN.{getD}
-use Rattle.base.specs.Words.{pick, bit}
+use Rattle.base.specs.Words.{pick}
 use Rattle.calendar.specs.Time.{advanced}
 use Rattle.record.specs.declared.Device.{Device}
-use Rattle.record.specs.Registers.{dayAt}
 use Rattle.block.specs.Setters.{withCycle, withGuard, withRegs}
-use Rattle.block.specs.Registers.{oscon}
-use Rattle.block.specs.Lines.{wip, changed}
+use Rattle.block.specs.Registers.{vbaten, oscon}
+use Rattle.block.specs.Lines.{changed}
 use Rattle.device.specs.Oscillator.{oscillatorTick}
 use Rattle.device.specs.Watchdog.{watchdogTick}
 use Rattle.device.specs.Clock.{timeOf, due, calendarTick}
@@ -55,20 +53,12 @@ clockwork boots d =
 
 -- "VBATEN (04h bit 3) set: .. ticks count; clear: .. nothing counts", with power off
 abbrev pub alive : Device → Bool
-alive d = d .power || bit (getD (d .regs) dayAt 0) 3
+alive d = d .power || vbaten (d .regs)
 
 unfoldable pub tick : Bool → World → World
 tick boots w =
     let c : World = cycleTick w in
     pick (alive (w .device)) (world (clockwork boots (c .device)) (c .eeprom) (c .id)) w
-
--- the record's part of a tick: it needs no memory
-unfoldable pub deviceTick : Bool → Device → Device
-deviceTick boots d = pick (alive d) (clockwork boots (cycleDevice d)) d
-
--- the write cycle ends at this tick
-abbrev pub ends : Device → Bool
-ends d = alive d && eqb (d .cycle .left) 1
 
 pub record Waited : Type 0 where
   pub used : ℕ
@@ -89,34 +79,3 @@ waited boots (suc n) w =
 unfoldable pub ticks : Bool → ℕ → World → World
 ticks boots zero w = w
 ticks boots (suc n) w = ticks boots n (tick boots w)
-
--- The record's part of a wait: it needs no memory.
-pub record DeviceWaited : Type 0 where
-  pub used : ℕ
-  pub device : Device
-
-abbrev pub plusDevice : ℕ → DeviceWaited → DeviceWaited
-plusDevice k r = record { used = k + r .used; device = r .device }
-
-unfoldable pub deviceWaited : Bool → ℕ → Device → DeviceWaited
-deviceWaited boots zero d = record { used = 0; device = d }
-deviceWaited boots (suc n) d =
-    let t : Device = deviceTick boots d in
-    let rest : DeviceWaited = plusDevice 1 (deviceWaited boots n t) in
-    pick (changed d t) (record { used = 1; device = t }) rest
-
--- the write cycle of d ended in the ticks that led to e: one ran, and none runs
-abbrev pub ended : Device → Device → Bool
-ended d e = wip d && not (wip e)
-
--- a wait of a world, from the wait of its record: the page is stored where the cycle ended
-abbrev pub settled : World → DeviceWaited → Waited
-settled w r =
-    let over : Bool = ended (w .device) (r .device) in
-    record {
-      used = r .used;
-      after =
-          world (r .device)
-          (pick over (eepromAfter (w .device .load) wholeMask (w .eeprom) (w .device .cycle .target)) (w .eeprom))
-          (pick over (idAfter (w .device .load) wholeMask (w .id) (w .device .cycle .target)) (w .id));
-    }

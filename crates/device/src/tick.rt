@@ -4,10 +4,10 @@ use record::Device;
 use record::Guard;
 use record::Protection;
 use record::Target;
-use record::registers::DAY;
 ghost use mathlib.Core.Path.{_≡_};
 ghost use Rattle.device.specs.World.{protectionAfter};
-ghost use Rattle.device.specs.Tick.{withLeft, cycleEnded, cycleDevice, clockwork, alive, deviceTick};
+ghost use Rattle.device.specs.Tick.{withLeft, cycleEnded, cycleDevice, clockwork, alive};
+ghost use Rattle.device.specs.RecordTick.{deviceTick};
 
 // The mask of a cycle that is not cut: every bit set.
 pub const WHOLE: u8 = 255;
@@ -88,7 +88,8 @@ fn clockwork_tick(boots: bool, d: Device) -> Device
 pub fn is_alive(d: Device) -> bool
     ensures { λ r. ⌜ r ≡ alive d ⌝ }
 {
-    d.power | (d.regs[DAY] / 8 % 2 == 1)
+    let regs = d.regs;
+    d.power | block::registers::battery_enabled(regs)
 }
 
 // With power off and VBATEN clear nothing counts.

@@ -23,11 +23,12 @@ use Rattle.record.specs.Part.{bootsOf}
 use Rattle.record.specs.Registers.{secondsAt, watchdogAt}
 use Rattle.refusals.specs.InRange.{InRange}
 use Rattle.refusals.proofs.RangeLaws.{fresh-facts}
+use Rattle.block.specs.Registers.{vbaten}
 use Rattle.device.specs.World.{World}
 use Rattle.device.proofs.WatchdogLaws.{period-least}
 use Rattle.device.proofs.RegisterLaws.{Inside, Halted, ClockIn, clock-in}
 use Rattle.device.proofs.TickRangeLaws.{eeprom-after-length, id-after-length}
-use Rattle.frames.specs.Power.{vbaten, cutCounters, cutRegs, afterCut, cutWorld, afterUp}
+use Rattle.frames.specs.Power.{cutCounters, cutRegs, afterCut, cutWorld, afterUp}
 use Rattle.frames.proofs.FrameLaws.{Sized}
 
 under-mask : (offsets mask : ℕ) → mask < 256 → bitAnd offsets mask < 256

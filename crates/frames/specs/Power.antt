@@ -1,24 +1,21 @@
 -- A power cut, and power up. Document 01, "Power cut". What the cut stores into the memories is in World.
 -- Assumes nothing.
 use Prim.Native.Nat.{ℕ, _%_}
-use mathlib.Core.Bool.{Bool, true, false}
+use mathlib.Core.Bool.{true, false}
 use mathlib.Core.List.{List}
 use lib.Dec.{eqb}
 use lib.ListN.{getD, set}
-use Rattle.base.specs.Words.{pick, bit}
+use Rattle.base.specs.Words.{pick}
 use Rattle.record.specs.declared.Device.{Device}
 use Rattle.record.specs.declared.Counters.{Counters}
 use Rattle.record.specs.declared.Guard.{Guard}
 use Rattle.record.specs.declared.Stage.the-variants.{Idle}
 use Rattle.record.specs.declared.Lock.the-variants.{Closed}
-use Rattle.record.specs.Registers.{dayAt, watchdogAt}
+use Rattle.record.specs.Registers.{watchdogAt}
 use Rattle.record.specs.Fresh.{freshRegs, freshSram, freshCounters}
 use Rattle.block.specs.Setters.{withPower}
+use Rattle.block.specs.Registers.{vbaten}
 use Rattle.device.specs.World.{World, world, eepromAfter, idAfter, protectionAfter, storedCount}
-
--- VBATEN is 04h bit 3
-abbrev pub vbaten : List ℕ → Bool
-vbaten regs = bit (getD regs dayAt 0) 3
 
 -- "0Ah bit 7 and the watchdog's count, delay and pulse clear"
 abbrev pub cutCounters : Counters → Counters
@@ -27,9 +24,9 @@ cutCounters c = record { divider = c .divider; startup = c .startup; watchdog = 
 abbrev pub cutRegs : List ℕ → List ℕ
 cutRegs regs = set regs watchdogAt (getD regs watchdogAt 0 % 128)
 
--- the protection that a cut leaves: "STATUS protection stays", but for a STATUS cycle that the mask let through
-abbrev pub cutProtection : ℕ → Device → Guard
-cutProtection mask d =
+-- "WEL clears, the lock closes"; "STATUS protection stays", but for a STATUS cycle that the mask let through
+abbrev pub cutGuard : ℕ → Device → Guard
+cutGuard mask d =
     record {
       wel = false;
       protection = pick (eqb (d .cycle .left) 0) (d .guard .protection) (protectionAfter mask (d .guard .protection) (d .cycle .target));
@@ -45,7 +42,7 @@ afterCut mask d =
       sram = pick (vbaten (d .regs)) (d .sram) freshSram;
       counters = pick (vbaten (d .regs)) (cutCounters (d .counters)) freshCounters;
       power = false;
-      guard = cutProtection mask d;
+      guard = cutGuard mask d;
       frame = record { stage = Idle };
       load = d .load;
       cycle = record { target = d .cycle .target; left = 0 };

@@ -8,13 +8,12 @@ use record::Load;
 use record::Lock;
 use record::Stage;
 use record::Target;
-use record::registers::DAY;
 use record::registers::WATCHDOG;
 ghost use mathlib.Core.Path.{_≡_};
 ghost use Rattle.base.specs.Words.{pick};
 ghost use Rattle.record.specs.Fresh.{freshRegs, freshSram, freshCounters};
 ghost use Rattle.device.specs.World.{storedCount};
-ghost use Rattle.frames.specs.Power.{cutCounters, cutRegs, cutProtection, afterCut, cutCount, afterUp};
+ghost use Rattle.frames.specs.Power.{cutCounters, cutRegs, cutGuard, afterCut, cutCount, afterUp};
 
 fn cut_regs(keep: bool, regs: [u8; 32]) -> [u8; 32]
     ensures { λ r. ⌜ r ≡ pick keep (cutRegs regs) freshRegs ⌝ }
@@ -59,7 +58,7 @@ fn cut_counters(keep: bool, c: Counters) -> Counters
 
 // WEL clears and the lock closes; the protection stays but for a STATUS cycle that the mask let through.
 fn cut_guard(mask: u8, d: Device) -> Guard
-    ensures { λ r. ⌜ r ≡ cutProtection mask d ⌝ }
+    ensures { λ r. ⌜ r ≡ cutGuard mask d ⌝ }
 {
     let g = d.guard;
     let old = g.protection;
@@ -84,12 +83,12 @@ fn cut_guard(mask: u8, d: Device) -> Guard
 pub fn after_cut(mask: u8, d: Device) -> Device
     ensures { λ r. ⌜ r ≡ afterCut mask d ⌝ }
 {
-    let keep = d.regs[DAY] / 8 % 2 == 1;
     let old_regs = d.regs;
     let old_sram = d.sram;
     let old_counters = d.counters;
     let y = d.cycle;
     let target = y.target;
+    let keep = block::registers::battery_enabled(old_regs);
     let regs = cut_regs(keep, old_regs);
     let sram = cut_sram(keep, old_sram);
     let counters = cut_counters(keep, old_counters);

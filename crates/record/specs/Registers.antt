@@ -35,6 +35,13 @@ controlAt = 0x08
 abbrev pub watchdogAt : ℕ
 watchdogAt = 0x0a
 
+-- An alarm's register of its flag (bit 3), its code (bits 6:4) and its pin (bit 7).
+abbrev pub alarm0At : ℕ
+alarm0At = 0x0f
+
+abbrev pub alarm1At : ℕ
+alarm1At = 0x16
+
 -- Document 01, "Frames": the mask of writable bits, 00h to 1Fh.
 abbrev pub writable : List ℕ
 writable =

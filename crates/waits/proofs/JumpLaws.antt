@@ -19,7 +19,8 @@ use Rattle.block.specs.Lines.{irqLow, wdoLow, wip, changed}
 use Rattle.device.specs.Oscillator.{asked, oscillatorTick}
 use Rattle.device.specs.Watchdog.{watchdogTick}
 use Rattle.device.specs.Clock.{running, hundredthDue, calendarTick}
-use Rattle.device.specs.Tick.{withLeft, cycleDevice, alarmTick, clockwork, alive, deviceTick, DeviceWaited, plusDevice, deviceWaited}
+use Rattle.device.specs.Tick.{withLeft, cycleDevice, alarmTick, clockwork, alive}
+use Rattle.device.specs.RecordTick.{deviceTick, DeviceWaited, plusDevice, deviceWaited}
 use Rattle.waits.specs.Jump.{Quiet, counts, runs, jumpedCounters, jumped, above, watched, gap, divided, quietTicks}
 use Rattle.block.proofs.LineLaws.{differ-same}
 use Rattle.device.proofs.ClockLaws.{clock-still}

@@ -15,7 +15,8 @@ use Rattle.record.specs.Registers.{watchdogAt, startupTicks}
 use Rattle.block.specs.Setters.{withCounters}
 use Rattle.device.specs.Oscillator.{asked}
 use Rattle.device.specs.World.{World, world}
-use Rattle.device.specs.Tick.{withLeft, alive, Waited, DeviceWaited, plusDevice, deviceWaited}
+use Rattle.device.specs.Tick.{withLeft, alive, Waited}
+use Rattle.device.specs.RecordTick.{DeviceWaited, plusDevice, deviceWaited}
 use Rattle.device.proofs.WatchdogLaws.{period-most}
 use Rattle.device.proofs.WaitLaws.{WaitFrom, wait-dead, wait-both}
 use Rattle.waits.specs.Jump.{Quiet, counts, runs, jumped, above, watched, divided, quietTicks}

@@ -3,7 +3,7 @@ use crate::jump::jump;
 use crate::jump::quiet_ticks;
 use record::Device;
 ghost use mathlib.Core.Path.{_≡_};
-ghost use Rattle.device.specs.Tick.{deviceWaited};
+ghost use Rattle.device.specs.RecordTick.{deviceWaited};
 
 pub struct Waited {
     pub used: u64,

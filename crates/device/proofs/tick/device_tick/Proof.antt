@@ -1,6 +1,6 @@
 -- `device::tick::device_tick` meets its contract.
 -- Assumes nothing.
-use Rattle.device.specs.Tick.{deviceTick}
+use Rattle.device.specs.RecordTick.{deviceTick}
 use borrow.Author.Needs.{needs}
 use Rattle.device.proofs.tick.device_tick.Statement.{statement}
 use Rattle.device.proofs.tick.device_tick.Tie as tie

@@ -15,4 +15,4 @@ after-cut-spec =
     (λ c κs. search needs)
     (λ c κs. search needs)
     (λ c κs. search needs)
-    (λ c. simp (c .before .cut-guard .ensures, c .before .before .cut-counters .ensures, c .before .before .before .cut-sram .ensures, c .before .before .before .before .cut-regs .ensures)))
+    (λ c. simp (c .before .cut-guard .ensures, c .before .before .cut-counters .ensures, c .before .before .before .cut-sram .ensures, c .before .before .before .before .cut-regs .ensures, c .before .before .before .before .before .battery-enabled .ensures)))
