@@ -3,6 +3,7 @@ use record::Code;
 use record::Counters;
 use record::Cycle;
 use record::Device;
+use record::EepromAddress;
 use record::Frame;
 use record::Guard;
 use record::Stage;
@@ -24,8 +25,8 @@ fn target_at(target: Target, stage: Stage) -> Target
     }
 }
 
-fn cycle_after(top: u8, k: u8, d: Device) -> Cycle
-    ensures { λ r. ⌜ r ≡ cycleAfter top k d ⌝ }
+fn cycle_after(top: EepromAddress, k: u8, d: Device) -> Cycle
+    ensures { λ r. ⌜ r ≡ cycleAfter (top .0) k d ⌝ }
 {
     let y = d.cycle;
     let old = y.target;
@@ -125,8 +126,8 @@ fn sram_after(clear: bool, sram: [u8; 64]) -> [u8; 64]
 }
 
 // The device after an end with k leftover bits.
-pub fn after_end(top: u8, k: u8, d: Device) -> Device
-    ensures { λ r. ⌜ r ≡ afterEnd top k d ⌝ }
+pub fn after_end(top: EepromAddress, k: u8, d: Device) -> Device
+    ensures { λ r. ⌜ r ≡ afterEnd (top .0) k d ⌝ }
 {
     let before = d.frame;
     let stage = before.stage;

@@ -14,10 +14,10 @@ ghost use Rattle.base.specs.Words.{pick};
 ghost use Rattle.ends.specs.End.{firstProtected, pageProtected, isOpen, dataCame, allowed, carried, latchAt, enabledAt, welAfter, secondStep, unlocked, lockAt, lockAfter};
 
 // The first protected address: the upper quarter, the upper half, or all of the EEPROM.
-fn first_protected(top: u8, p: Protection) -> u16
-    ensures { λ r. ⌜ r ≡ firstProtected (top + 1) p ⌝ }
+fn first_protected(top: EepromAddress, p: Protection) -> u16
+    ensures { λ r. ⌜ r ≡ firstProtected (top .0 + 1) p ⌝ }
 {
-    let size = top as u16 + 1;
+    let size = top.0 as u16 + 1;
     match p {
         Protection::Nothing => size,
         Protection::Quarter => size / 4 * 3,
@@ -26,8 +26,8 @@ fn first_protected(top: u8, p: Protection) -> u16
     }
 }
 
-fn page_protected(top: u8, p: Protection, a: EepromAddress) -> bool
-    ensures { λ r. ⌜ r ≡ pageProtected (top + 1) p (a .0) ⌝ }
+fn page_protected(top: EepromAddress, p: Protection, a: EepromAddress) -> bool
+    ensures { λ r. ⌜ r ≡ pageProtected (top .0 + 1) p (a .0) ⌝ }
 {
     let page = (a.0 / 8 * 8) as u16;
     first_protected(top, p) <= page
@@ -57,8 +57,8 @@ fn data_came(load: Load, stage: Stage) -> bool
 }
 
 // What guards each write: protection, lock, one data byte only.
-fn is_allowed(top: u8, g: Guard, stage: Stage) -> bool
-    ensures { λ r. ⌜ r ≡ allowed top g stage ⌝ }
+fn is_allowed(top: EepromAddress, g: Guard, stage: Stage) -> bool
+    ensures { λ r. ⌜ r ≡ allowed (top .0) g stage ⌝ }
 {
     let p = g.protection;
     let lock = g.lock;
@@ -71,8 +71,8 @@ fn is_allowed(top: u8, g: Guard, stage: Stage) -> bool
 }
 
 // A write is carried into its cycle.
-pub fn is_carried(top: u8, k: u8, d: Device) -> bool
-    ensures { λ r. ⌜ r ≡ carried top k d ⌝ }
+pub fn is_carried(top: EepromAddress, k: u8, d: Device) -> bool
+    ensures { λ r. ⌜ r ≡ carried (top .0) k d ⌝ }
 {
     let g = d.guard;
     let load = d.load;
@@ -120,8 +120,8 @@ fn enabled_at(k: u8, wel: bool, stage: Stage) -> bool
 }
 
 // How WEL moves.
-pub fn wel_after(top: u8, k: u8, d: Device) -> bool
-    ensures { λ r. ⌜ r ≡ welAfter top k d ⌝ }
+pub fn wel_after(top: EepromAddress, k: u8, d: Device) -> bool
+    ensures { λ r. ⌜ r ≡ welAfter (top .0) k d ⌝ }
 {
     let g = d.guard;
     let load = d.load;

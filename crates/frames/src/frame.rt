@@ -68,8 +68,8 @@ fn first_stage(busy: bool, code: Code) -> Stage
     Stage::Instruction(code)
 }
 
-fn second_stage(top: u8, v: u8, code: Code) -> Stage
-    ensures { λ r. ⌜ r ≡ secondStage top v code ⌝ }
+fn second_stage(top: EepromAddress, v: u8, code: Code) -> Stage
+    ensures { λ r. ⌜ r ≡ secondStage (top .0) v code ⌝ }
 {
     match code {
         Code::Eeread => Stage::EepromRead(EepromAddress::taken(v, top)),
@@ -90,8 +90,8 @@ fn second_stage(top: u8, v: u8, code: Code) -> Stage
 }
 
 // Where a byte takes the frame.
-fn stage_after(top: u8, busy: bool, v: u8, stage: Stage) -> Stage
-    ensures { λ r. ⌜ r ≡ stageAfter top busy v stage ⌝ }
+fn stage_after(top: EepromAddress, busy: bool, v: u8, stage: Stage) -> Stage
+    ensures { λ r. ⌜ r ≡ stageAfter (top .0) busy v stage ⌝ }
 {
     match stage {
         Stage::Idle => Stage::Idle,
@@ -183,8 +183,8 @@ fn written_at(boots: bool, d: Device, v: u8, stage: Stage) -> Device
 }
 
 // The device after a whole byte.
-pub fn after_byte(boots: bool, top: u8, v: u8, d: Device) -> Device
-    ensures { λ r. ⌜ r ≡ afterByte boots top v d ⌝ }
+pub fn after_byte(boots: bool, top: EepromAddress, v: u8, d: Device) -> Device
+    ensures { λ r. ⌜ r ≡ afterByte boots (top .0) v d ⌝ }
 {
     let before = d.frame;
     let stage = before.stage;

@@ -150,18 +150,18 @@ pub enum Act {
 
 impl EepromAddress {
     // The address byte as a part with this top address takes it: 1 Kbit drops bit 7.
-    pub fn taken(v: u8, top: u8) -> EepromAddress
-        ensures { λ r. ⌜ r ≡ takenEeprom top v ⌝ }
+    pub fn taken(v: u8, top: EepromAddress) -> EepromAddress
+        ensures { λ r. ⌜ r ≡ takenEeprom (top .0) v ⌝ }
     {
-        EepromAddress(v & top)
+        EepromAddress(v & top.0)
     }
 
     // From the top address the pointer rolls to 00h.
-    pub fn next(self, top: u8) -> EepromAddress
-        ensures { λ r. ⌜ r ≡ rollEeprom top self ⌝ }
+    pub fn next(self, top: EepromAddress) -> EepromAddress
+        ensures { λ r. ⌜ r ≡ rollEeprom (top .0) self ⌝ }
     {
         let a = self.0;
-        if a < top {
+        if a < top.0 {
             EepromAddress(a + 1)
         } else {
             EepromAddress(0)

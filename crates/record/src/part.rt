@@ -1,6 +1,7 @@
 // The four parts: 1 W 1K, 2 W 2K, 3 B 1K, 4 B 2K.
+use crate::EepromAddress;
 ghost use mathlib.Core.Path.{_≡_};
-ghost use Rattle.record.specs.Part.{isPart, topOf, bootsOf};
+ghost use Rattle.record.specs.Part.{isPart, topOf, sizeOf, bootsOf};
 
 // The ID memory has 16 bytes.
 pub const ID_SIZE: u8 = 16;
@@ -14,10 +15,21 @@ pub fn is_part(part: u64) -> bool
 }
 
 // The top address of the EEPROM: 7Fh of 1 Kbit, FFh of 2 Kbit.
-pub fn top(part: u64) -> u8
-    ensures { λ r. ⌜ r ≡ topOf part ⌝ }
+pub fn top(part: u64) -> EepromAddress
+    ensures { λ r. ⌜ r .0 ≡ topOf part ⌝ }
 {
-    if part % 2 == 1 { 0x7f } else { 0xff }
+    if part % 2 == 1 {
+        EepromAddress(0x7f)
+    } else {
+        EepromAddress(0xff)
+    }
+}
+
+// The EEPROM's length in bytes.
+pub fn size(part: u64) -> u16
+    ensures { λ r. ⌜ r ≡ sizeOf part ⌝ }
+{
+    top(part).0 as u16 + 1
 }
 
 // A B part asks its oscillator to run always, a W part by ST.

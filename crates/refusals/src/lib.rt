@@ -77,7 +77,7 @@ pub fn refusal(part: u64, act: Act, number: u64, d: Device, eeprom: usize, id: u
     ensures { λ r. ⌜ r ≡ refusalOf part act number d eeprom id ⌝ }
 {
     let known = part::is_part(part);
-    let size = part::top(part) as usize + 1;
+    let size = part::size(part) as usize;
     let ranged = range::out_of_range(part, d);
     let wrong = wrong_number(act, number);
     let unpowered = wrong_power(act, d.power);

@@ -70,7 +70,7 @@ fn frame_out(size: u16, power: bool, stage: Stage, load: Load, cycle: Cycle) -> 
 pub fn out_of_range(part: u64, d: Device) -> bool
     ensures { λ r. ⌜ r ≡ outOfRange part d ⌝ }
 {
-    let size = part::top(part) as u16 + 1;
+    let size = part::size(part);
     let boots = part::boots(part);
     let regs = d.regs;
     let counters = d.counters;

@@ -19,7 +19,7 @@ pub struct Ran {
 fn refuses(part: u64, eeprom: usize, id: usize) -> u8
     ensures { λ r. ⌜ r ≡ refusesRun part eeprom id ⌝ }
 {
-    let size = record::part::top(part) as usize + 1;
+    let size = record::part::size(part) as usize;
     if !record::part::is_part(part) {
         return 3;
     }

@@ -98,7 +98,7 @@ fn act_line(
     if none {
         return refused_line(7, p, out);
     }
-    let size = record::part::top(p.part) as usize + 1;
+    let size = record::part::size(p.part) as usize;
     let d = p.device;
     let a = acts::perform(p.part, act, n, d, &mut eeprom[..size], id);
     let counted = text::print::counts_of(act);

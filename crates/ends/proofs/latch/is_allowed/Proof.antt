@@ -52,4 +52,4 @@ is-allowed-spec =
     (λ c. simp (c .page-protected .ensures, c .before .before .stage .given .1))
     (λ c. simp (c .is-open .ensures, c .before .enum-told .given .1))
     (λ c. simp (c .enum-told2 .given .1))
-    (λ c. others (c .before .args .top) (c .before .args .g) (c .before .args .stage) (c .match .keys4)))
+    (λ c. others (c .before .args .top .0) (c .before .args .g) (c .before .args .stage) (c .match .keys4)))

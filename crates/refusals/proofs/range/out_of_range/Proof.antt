@@ -9,15 +9,13 @@ returns : tie.Need-returns
 unfolding outOfRange
 returns c =
     let d = c .before .before .before .before .before .before .before .before in
-    simp (c .bit-outside .ensures, c .before .frame-out .ensures, c .before .before .counters-out .ensures, d .boots .ensures, d .before .top .ensures)
+    simp (c .bit-outside .ensures, c .before .frame-out .ensures, c .before .before .counters-out .ensures, d .boots .ensures, d .before .size .ensures)
 
 pub out-of-range-spec : {M : Type 1} → statement M
 out-of-range-spec =
     tie.close
     (tie.spec
     (λ c κs. search needs)
-    (λ c. search needs)
-    (λ c. search needs)
     (λ c κs. search needs)
     (λ c κs. search needs)
     (λ c κs. search needs)

@@ -2,7 +2,7 @@
 -- Assumes nothing.
 use native.Mathlib.Omega.{arith}
 use mathlib.Core.Path.{_≡_, sym, ap, _∙_}
-use Prim.Native.Nat.{ℕ, _+_, _≤_}
+use Prim.Native.Nat.{ℕ, _≤_}
 use lib.ListN.{length, take, drop}
 use lib.Seq.{length-take-le, take-at}
 use mathlib.Core.List.{_++_}
@@ -27,7 +27,7 @@ slice-aggregate-perform : tie.Need-slice-aggregate-perform
 slice-aggregate-perform c =
     let b = c .before .before .before .before .before .before .before .before in
     let l = size-most (b .args .p .part) in
-    sym (length-take-le (c .before .before .top .result + 1) (b .args .eeprom .now) (omega (arith, b .pre .0, l, c .before .before .top .ensures)))
+    sym (length-take-le (c .before .before .size .result) (b .args .eeprom .now) (omega (arith, b .pre .0, l, c .before .before .size .ensures)))
 
 returns-2 : tie.Need-returns-2
 returns-2 c =
@@ -35,10 +35,10 @@ returns-2 c =
     let a = b .args in
     let f = c .before .before .before .before .before .before .before .before .before .before .perform in
     let p = c .before .before .put-line in
-    let k = c .before .before .before .before .before .before .before .before .before .before .before .before .before .before .top .result + 1 in
+    let k = c .before .before .before .before .before .before .before .before .before .before .before .before .before .before .size .result in
     let ee = f .last .1 .1 .1 .1 .0 in
     let o = buffer (a .out .now) (a .p .at) in
-    let s : k ≡ sizeOf (a .p .part) = ap (λ (n : ℕ). n + 1) (c .before .before .before .before .before .before .before .before .before .before .before .before .before .before .top .ensures) in
+    let s : k ≡ sizeOf (a .p .part) = c .before .before .before .before .before .before .before .before .before .before .before .before .before .before .size .ensures in
     let w : k ≤ length (a .eeprom .now) = omega (arith, b .pre .0, s, size-most (a .p .part)) in
     let l : length ee ≡ sizeOf (a .p .part) = f .kept .1 .1 .1 .1 .0 ∙ length-take-le k (a .eeprom .now) w ∙ s in
     let t : take (sizeOf (a .p .part)) (ee ++ drop k (a .eeprom .now)) ≡ ee = take-at ee (drop k (a .eeprom .now)) (sizeOf (a .p .part)) l in
@@ -57,8 +57,7 @@ act-line-spec =
     returns
     (λ c κs. search needs)
     (λ c. search needs)
-    (λ c. search needs)
-    (λ c. search needs)
+    (λ c. let b = c .before .before .before .before .before .before .before in omega (arith, b .pre .0, size-most (b .args .p .part), c .before .size .ensures))
     slice-aggregate-perform
     (λ c κs. search needs)
     (λ c κs. search needs)
