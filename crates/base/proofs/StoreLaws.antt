@@ -1,6 +1,6 @@
 -- Laws of a store under a set: how a loop builds it, its length, what a byte is after it, and a store into a part of a list.
 -- Assumes nothing.
-use mathlib.Core.Path.{_≡_, refl, sym, ap, _∙_}
+use mathlib.Core.Path.{_≡_, refl, sym, ap, subst, _∙_}
 use mathlib.Core.Bool.{Bool, true, false}
 use mathlib.Core.List.{List, [], _∷_, _++_}
 use Prim.Native.Nat.{ℕ, zero, suc, _+_, _<_, _≤_}
@@ -38,6 +38,11 @@ set-case P (x ∷ xs) zero zero v p q = p refl
 set-case P (x ∷ xs) zero (suc k) v p q = q
 set-case P (x ∷ xs) (suc i) zero v p q = q
 set-case P (x ∷ xs) (suc i) (suc k) v p q = set-case P xs i k v (λ e. p (ap suc e)) q
+
+-- what holds of each place of a list holds of each after a store of a value of which it holds there
+pub set-each :
+    (P : ℕ → ℕ → Type 0) (l : List ℕ) (i v : ℕ) → P i v → ((k : ℕ) → P k (getD l k 0)) → (k : ℕ) → P k (getD (set l i v) k 0)
+set-each P l i v p q k = set-case (P k) l i k v (λ e. subst (λ (j : ℕ). P j v) (sym e) p) (q k)
 
 set-right : (x y : List ℕ) (i v : ℕ) → set (x ++ y) (length x + i) v ≡ x ++ set y i v
 set-right [] y i v = ap (λ (k : ℕ). set y k v) (zero-add i)

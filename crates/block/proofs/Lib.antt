@@ -1,1 +1,3 @@
 pub mod LineLaws
+pub mod AlarmLaws
+pub mod WriteLaws

@@ -1,7 +1,7 @@
 -- Laws of the calendar's and the alarms' parts of a tick: what they do to the registers.
 -- Assumes nothing.
 use mathlib.Core.Path.{_≡_, refl, sym, subst, _∙_}
-use mathlib.Core.Bool.{Bool, true, false, _&&_}
+use mathlib.Core.Bool.{Bool, true, false}
 use mathlib.Core.Logic.{_⊎_, inl, inr, ⊎-elim, _≢_}
 use mathlib.Core.List.{List, [], _∷_}
 use Prim.Native.Nat.{ℕ, _<_, _≤_}
@@ -10,17 +10,15 @@ use lib.Bits.{bitOr}
 use lib.ListN.{length, getD, set, length-set}
 use Rattle.base.specs.Words.{pick, bit}
 use Rattle.base.proofs.Tests.{pick-case}
-use Rattle.base.proofs.StoreLaws.{set-case}
+use Rattle.base.proofs.StoreLaws.{set-each}
 use Rattle.calendar.specs.declared.Time.{Time}
-use Rattle.calendar.specs.declared.Advanced.{Advanced}
 use Rattle.calendar.specs.Time.{advanced}
 use Rattle.calendar.proofs.TimeLaws.{st-stays, vbaten-stays}
 use Rattle.record.specs.declared.Device.{Device}
 use Rattle.record.specs.Registers.{secondsAt, dayAt, alarm0At, alarm1At}
 use Rattle.block.specs.Setters.{withRegs}
 use Rattle.block.specs.Registers.{vbaten}
-use Rattle.block.specs.Lines.{active}
-use Rattle.block.specs.Alarm.{raise, match0, match1, alarmed}
+use Rattle.block.proofs.AlarmLaws.{alarmed-each, alarmed-length}
 use Rattle.device.specs.Clock.{timeOf, withTime, running, due, dividerTick, calendarTick}
 use Rattle.device.specs.Tick.{alarmTick}
 
@@ -34,11 +32,6 @@ pub clock-still :
     (counted : Bool) (d : Device) → due counted d ≡ false → dividerTick (running counted d) d ≡ alarmTick counted d (calendarTick counted d)
 unfolding calendarTick
 clock-still counted d e = divider-regs (running counted d) d ∙ simp e
-
--- what holds of each place of a list holds of each after a store of a value of which it holds there
-set-each :
-    (P : ℕ → ℕ → Type 0) (l : List ℕ) (i v : ℕ) → P i v → ((k : ℕ) → P k (getD l k 0)) → (k : ℕ) → P k (getD (set l i v) k 0)
-set-each P l i v p q k = set-case (P k) l i k v (λ e. subst (λ (j : ℕ). P j v) (sym e) p) (q k)
 
 -- What holds of each register, and of each new time byte at its register, holds of each register with the new time.
 pub record TimeEach (P : ℕ → ℕ → Type 0) (t : Time) : Type 0 where
@@ -72,26 +65,7 @@ with-time-each P regs t e q =
     (set-each P l1 0x01 (t .seconds) (e .seconds)
     (set-each P regs 0x00 (t .hundredths) (e .hundredths) q)))))))
 
--- the same of a flag that may be set, and of both alarms
-pub raise-each :
-    (P : ℕ → ℕ → Type 0) (go : Bool) (regs : List ℕ) (a : ℕ) → ((v : ℕ) → P a v → P a (bitOr v 0x08)) → ((k : ℕ) → P k (getD regs k 0))
-    → (k : ℕ) → P k (getD (raise go regs a) k 0)
-raise-each P true regs a f q = set-each P regs a (bitOr (getD regs a 0) 0x08) (f (getD regs a 0) (q a)) q
-raise-each P false regs a f q = q
-
-pub alarmed-each :
-    (P : ℕ → ℕ → Type 0) (t : Advanced) (regs : List ℕ)
-    → ((v : ℕ) → P alarm0At v → P alarm0At (bitOr v 0x08))
-    → ((v : ℕ) → P alarm1At v → P alarm1At (bitOr v 0x08))
-    → ((k : ℕ) → P k (getD regs k 0))
-    → (k : ℕ) → P k (getD (alarmed t regs) k 0)
-unfolding alarmed
-alarmed-each P t regs f g q =
-    let go0 : Bool = active regs 4 && match0 t regs in
-    let go1 : Bool = active regs 5 && match1 t regs in
-    raise-each P go1 (raise go0 regs alarm0At) alarm1At g (raise-each P go0 regs alarm0At f q)
-
--- the same of both parts
+-- the same of the calendar's and the alarms' parts
 pub clock-each :
     (P : ℕ → ℕ → Type 0) (counted : Bool) (d : Device)
     → TimeEach P (advanced (timeOf (d .regs)) .time)
@@ -173,16 +147,6 @@ clock-vbaten counted d = clock-bit counted d dayAt 3 (omega arith) (vbaten-stays
 with-time-length : (regs : List ℕ) (t : Time) → length (withTime regs t) ≡ length regs
 unfolding withTime
 with-time-length regs t = simp length-set
-
-raise-length : (go : Bool) (regs : List ℕ) (a : ℕ) → length (raise go regs a) ≡ length regs
-raise-length true regs a = length-set regs a (bitOr (getD regs a 0) 0x08)
-raise-length false regs a = refl
-
-alarmed-length : (t : Advanced) (regs : List ℕ) → length (alarmed t regs) ≡ length regs
-unfolding alarmed
-alarmed-length t regs =
-    let go0 : Bool = active regs 4 && match0 t regs in
-    raise-length (active regs 5 && match1 t regs) (raise go0 regs alarm0At) alarm1At ∙ raise-length go0 regs alarm0At
 
 pub clock-regs-length :
     (counted : Bool) (d : Device) → length (alarmTick counted d (calendarTick counted d) .regs) ≡ length (d .regs)

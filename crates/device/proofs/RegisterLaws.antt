@@ -1,5 +1,4 @@
--- What WRITE, the oscillator and the watchdog keep of a record in range: the facts of `InRange` on registers and counts. WRITE's
--- lengths, and what it leaves alone, stand here too.
+-- What WRITE, the oscillator and the watchdog keep of a record in range: the facts of `InRange` on registers and counts.
 -- Assumes nothing.
 use Prim.Native.Nat.{ℕ, _+_, _<_, _≤_}
 use native.Mathlib.Omega.{arith}
@@ -27,9 +26,10 @@ use Rattle.record.specs.Registers.{secondsAt, watchdogAt, writable, kept, perio
 use Rattle.record.specs.Stages.{selected, foreignToWip, idAt, idIn, eepromAt, eepromIn}
 use Rattle.refusals.specs.InRange.{InRange}
 use Rattle.block.specs.Registers.{afterWrite, writeClock}
+use Rattle.block.proofs.WriteLaws.{Beside, write-beside}
 use Rattle.device.specs.Oscillator.{asked, oscillatorTick}
 use Rattle.device.specs.Watchdog.{counting, pulseTick, timeOut, countedTick, watchdogTick}
-use Rattle.device.proofs.WatchdogLaws.{period-least}
+use Rattle.record.proofs.PeriodLaws.{period-least}
 
 -- the rows of `InRange` that read registers and counts alone, each of a value
 abbrev pub Paced : Counters → ℕ → Type 0
@@ -65,14 +65,6 @@ clock-in part d r =
       inside = r .inside;
       stopped = r .stopped;
     }
-
--- e has all of d but registers, SRAM and counts
-pub record Beside (d e : Device) : Type 0 where
-  pub power : e .power ≡ d .power
-  pub guard : e .guard ≡ d .guard
-  pub frame : e .frame ≡ d .frame
-  pub load : e .load ≡ d .load
-  pub cycle : e .cycle ≡ d .cycle
 
 -- the other rows read nothing else
 pub in-range-beside : (part : ℕ) (d e : Device) → InRange part d → Beside d e → ClockOf (bootsOf part) e → InRange part e
@@ -178,34 +170,11 @@ write-clock-in boots d a v r =
     (λ t. after-write-in boots (a .0) (bitAnd v (getD writable (a .0) 0)) (d .regs) (d .counters) (written-inside (a .0) v (ltb-true (a .0) 0x20 t)) r)
     (λ t. pick-case (ClockOf boots) (ltb (a .0) 0x60) r r)
 
--- it leaves alone what is no register, SRAM or count
-pub write-beside : (boots : Bool) (d : Device) (a : ClockAddress) (v : ℕ) → Beside d (writeClock boots d a v)
-unfolding writeClock
-write-beside boots d a v =
-    pick-case (Beside d) (ltb (a .0) 0x20)
-    (record { power = refl; guard = refl; frame = refl; load = refl; cycle = refl })
-    (pick-case (Beside d) (ltb (a .0) 0x60)
-    (record { power = refl; guard = refl; frame = refl; load = refl; cycle = refl })
-    (record { power = refl; guard = refl; frame = refl; load = refl; cycle = refl }))
-
 pub write-in-range :
     (part : ℕ) (d : Device) (a : ClockAddress) (v : ℕ) → InRange part d → InRange part (writeClock (bootsOf part) d a v)
 write-in-range part d a v r =
     in-range-beside part d (writeClock (bootsOf part) d a v) r (write-beside (bootsOf part) d a v)
     (write-clock-in (bootsOf part) d a v (clock-in part d r))
-
--- and the lengths
-pub write-regs-length : (boots : Bool) (d : Device) (a : ClockAddress) (v : ℕ) → length (writeClock boots d a v .regs) ≡ length (d .regs)
-unfolding writeClock
-write-regs-length boots d a v =
-    pick-case (λ (e : Device). length (e .regs) ≡ length (d .regs)) (ltb (a .0) 0x20) (length-set (d .regs) (a .0) _)
-    (pick-case (λ (e : Device). length (e .regs) ≡ length (d .regs)) (ltb (a .0) 0x60) refl refl)
-
-pub write-sram-length : (boots : Bool) (d : Device) (a : ClockAddress) (v : ℕ) → length (writeClock boots d a v .sram) ≡ length (d .sram)
-unfolding writeClock
-write-sram-length boots d a v =
-    pick-case (λ (e : Device). length (e .sram) ≡ length (d .sram)) (ltb (a .0) 0x20) refl
-    (pick-case (λ (e : Device). length (e .sram) ≡ length (d .sram)) (ltb (a .0) 0x60) (length-set (d .sram) _ v) refl)
 
 -- the oscillator: a start-up count that goes up is asked to
 pub oscillator-clock-in : (boots : Bool) (d : Device) → ClockOf boots d → ClockOf boots (oscillatorTick boots d)

@@ -23,13 +23,14 @@ use Rattle.record.specs.Part.{bootsOf}
 use Rattle.record.specs.Registers.{watchdogAt, dividerTicks}
 use Rattle.refusals.specs.InRange.{InRange}
 use Rattle.block.specs.Registers.{oscon}
+use Rattle.block.proofs.WriteLaws.{Beside}
 use Rattle.device.specs.Oscillator.{oscillatorTick}
 use Rattle.device.specs.Watchdog.{watchdogTick}
 use Rattle.device.specs.Clock.{timeOf, running, dividerTick, calendarTick}
 use Rattle.device.specs.World.{World, world, wholeMask, eepromAfter, idAfter}
 use Rattle.device.specs.Tick.{cycleDevice, alarmTick, clockwork, alive, tick, waited}
 use Rattle.device.specs.RecordTick.{deviceTick, ends, deviceWaited}
-use Rattle.device.proofs.RegisterLaws.{Inside, ClockOf, clock-in, Beside, in-range-beside, oscillator-clock-in, oscillator-regs, watchdog-clock-in, watchdog-regs-length}
+use Rattle.device.proofs.RegisterLaws.{Inside, ClockOf, clock-in, in-range-beside, oscillator-clock-in, oscillator-regs, watchdog-clock-in, watchdog-regs-length}
 use Rattle.device.proofs.ClockLaws.{clock-each, clock-other, clock-st, clock-regs-length}
 use Rattle.device.proofs.KeepLaws.{ClockOnly, clockwork-keeps}
 use Rattle.device.proofs.TickLaws.{CycleStep, cycle-step, ticked, tick-device, tick-eeprom, tick-id}

@@ -1,26 +1,11 @@
--- Laws of the watchdog's part of a tick: its periods, and a pulse that does not run.
+-- Laws of the watchdog's part of a tick: a pulse that does not run.
 -- Assumes nothing.
-use mathlib.Core.Path.{_≡_, refl, ap}
-use Prim.Native.Nat.{ℕ, _%_, _<_, _≤_}
+use mathlib.Core.Path.{_≡_, ap}
+use Prim.Native.Nat.{ℕ, _≤_}
 use native.Mathlib.Omega.{arith}
-use borrow.Author.Tests.{ltb-true}
-use lib.Dec.{ltb}
-use lib.ListN.{getD}
-use Rattle.base.specs.Words.{every}
-use Rattle.base.proofs.Every.{every-at, bound-below}
 use Rattle.record.specs.declared.Device.{Device}
-use Rattle.record.specs.Registers.{periods, periodOf}
 use Rattle.block.specs.Setters.{withCounters}
 use Rattle.device.specs.Watchdog.{pulseTick}
-
--- every period is above 31 and below 2,097,153
-pub period-least : (v : ℕ) → 31 < periodOf v
-unfolding every
-period-least v = ltb-true 31 (periodOf v) (every-at (λ (k : ℕ). ltb 31 (getD periods k 0)) 8 refl (v % 8) (omega arith))
-
-pub period-most : (v : ℕ) → periodOf v < 2097153
-unfolding every
-period-most v = bound-below (λ (k : ℕ). getD periods k 0) 2097153 8 refl (v % 8) (omega arith)
 
 -- a pulse that does not run stays
 pub pulse-still : (d : Device) → d .counters .pulse ≤ 0 → d ≡ pulseTick d

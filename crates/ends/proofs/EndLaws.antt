@@ -19,7 +19,7 @@ use Rattle.record.specs.Part.{topOf, sizeOf, bootsOf}
 use Rattle.record.specs.Registers.{watchdogAt, cycleTicks}
 use Rattle.record.specs.Stages.{idAt, idIn, eepromAt, eepromIn}
 use Rattle.refusals.specs.InRange.{InRange}
-use Rattle.device.proofs.WatchdogLaws.{period-least}
+use Rattle.record.proofs.PeriodLaws.{period-least}
 use Rattle.device.proofs.RegisterLaws.{ClockIn, clock-in}
 use Rattle.ends.specs.End.{carried, targetAt, cycleAfter, clearsWatchdog, clearsRam, clearedCounters, afterEnd}
 

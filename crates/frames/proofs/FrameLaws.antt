@@ -31,7 +31,8 @@ use Rattle.refusals.specs.InRange.{InRange}
 use Rattle.block.specs.Setters.{withStage, withLoad}
 use Rattle.block.specs.Lines.{wip}
 use Rattle.block.specs.Registers.{writeClock}
-use Rattle.device.proofs.RegisterLaws.{Beside, write-beside, write-in-range, write-regs-length, write-sram-length}
+use Rattle.block.proofs.WriteLaws.{Beside, write-beside, write-regs-length, write-sram-length}
+use Rattle.device.proofs.RegisterLaws.{write-in-range}
 use Rattle.frames.specs.Frame.{secondStage, stageAfter, emptied, loadedWith, loadAfter, writtenAt, afterByte, afterSelect}
 
 -- The bit of each offset: the table of the code is the power of the definition.

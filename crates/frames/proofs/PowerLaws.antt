@@ -25,7 +25,7 @@ use Rattle.refusals.specs.InRange.{InRange}
 use Rattle.refusals.proofs.RangeLaws.{fresh-facts}
 use Rattle.block.specs.Registers.{vbaten}
 use Rattle.device.specs.World.{World}
-use Rattle.device.proofs.WatchdogLaws.{period-least}
+use Rattle.record.proofs.PeriodLaws.{period-least}
 use Rattle.device.proofs.RegisterLaws.{Inside, Halted, ClockIn, clock-in}
 use Rattle.device.proofs.TickRangeLaws.{eeprom-after-length, id-after-length}
 use Rattle.frames.specs.Power.{cutCounters, cutRegs, afterCut, cutWorld, afterUp}

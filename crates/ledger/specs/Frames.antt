@@ -153,9 +153,13 @@ carried part leftover l = l .wel && dataFits (l .frame) && eqb leftover 0 && all
 abbrev pub kindOf : ℕ → Kind
 kindOf code = pick (eqb code EEWRITE) eepromCycle (pick (eqb code IDWRITE) idCycle statusCycle)
 
--- "a carried write first becomes the cycle, 164 ticks left"; "The cycle lasts 164 ticks (bench, 5 ms rounded up)"
+-- "The cycle lasts 164 ticks (bench, 5 ms rounded up)"
+abbrev pub cycleLength : ℕ
+cycleLength = 164
+
+-- "a carried write first becomes the cycle, 164 ticks left"
 unfoldable pub cycleOf : Frame → Cycle
-cycleOf f = record { kind = kindOf (f .code); page = f .page; loaded = f .loaded; left = 164 }
+cycleOf f = record { kind = kindOf (f .code); page = f .page; loaded = f .loaded; left = cycleLength }
 
 -- How WEL moves at the end of a heard frame, by whether a cycle starts: "EEWREN and EEWRDI act at an end after exactly 8 bits."
 -- "Whenever a heard EEWRITE, SRWRITE or IDWRITE ends with at least one data byte and no cycle starts, WEL clears."

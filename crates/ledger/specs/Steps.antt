@@ -10,12 +10,16 @@ use Rattle.ledger.specs.State.{Act, select, byte, end, wait, cut, up, St
 use Rattle.ledger.specs.Frames.{running, frameAfter, carried, cycleOf, welAfter, lockAfter}
 use Rattle.ledger.specs.Bytes.{entriesAfter, bpAfter, wholePage}
 
+-- the most ticks that a wait may ask for
+abbrev pub longestWait : ℕ
+longestWait = 16777216
+
 -- Number 3: "leftover above 7, wait above 16,777,216, byte or mask above 255, select or up with a number other than 0"
 abbrev pub badNumber : Act → ℕ → Bool
 badNumber select n = not (eqb n 0)
 badNumber byte n = ltb 255 n
 badNumber end n = ltb 7 n
-badNumber wait n = ltb 16777216 n
+badNumber wait n = ltb longestWait n
 badNumber cut n = ltb 255 n
 badNumber up n = not (eqb n 0)
 

@@ -1,2 +1,4 @@
 pub mod NumberLaws
 pub mod PartLaws
+pub mod StageLaws
+pub mod PeriodLaws

@@ -1,5 +1,5 @@
--- Laws of the parts and of pages: the four parts are all there are, an EEPROM is whole pages and has at most 256 bytes, and the page of
--- an address lies inside its memory.
+-- Laws of the parts and of pages: the four parts are all there are, the size of each, an EEPROM is whole pages and has at most 256 bytes,
+-- and the page of an address lies inside its memory.
 -- Assumes nothing.
 use Prim.Native.Nat.{ℕ, zero, suc, _+_, _%_, _<_, _≤_}
 use native.Mathlib.Omega.{arith}
@@ -21,6 +21,10 @@ part-cases P a b c d (suc (suc (suc (suc zero)))) e = d
 part-cases P a b c d (suc (suc (suc (suc (suc n))))) e =
     let m : ℕ = suc (suc (suc (suc (suc n)))) in
     absurd (omega (arith, leb-true m 4 (both-right (leb 1 m) (leb m 4) e)))
+
+-- the parts' lengths in bytes: 1 Kbit, 2 Kbit, 1 Kbit, 2 Kbit
+pub sizes : (sizeOf 1 ≡ 128) × (sizeOf 2 ≡ 256) × (sizeOf 3 ≡ 128) × (sizeOf 4 ≡ 256)
+sizes = (refl, refl, refl, refl)
 
 -- an EEPROM is whole pages
 pub whole-pages : (part : ℕ) → sizeOf part % 8 ≡ 0

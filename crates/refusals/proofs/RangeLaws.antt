@@ -4,7 +4,7 @@
 use Prim.Native.Nat.{ℕ, _<_, _≤_}
 use native.Mathlib.Omega.{arith}
 use mathlib.Core.Path.{_≡_, refl, ap}
-use mathlib.Core.Logic.{inl, inr, ⊎-elim, _≢_, _↔_}
+use mathlib.Core.Logic.{inl, inr, ⊎-elim, _↔_}
 use mathlib.Core.Bool.{Bool, true, false, not, _&&_, _||_, true≢false, false≢true}
 use borrow.Author.Tests.{lt-ltb, lt-leb, ltb-true, ltb-false, leb-true, leb-false, eqb-true, eqb-false, not-true, not-false}
 use lib.Dec.{ltb, leb}
@@ -25,6 +25,7 @@ use Rattle.record.specs.Part.{isPart, sizeOf, bootsOf}
 use Rattle.record.specs.Registers.{secondsAt, cycleTicks, startupTicks, dividerLast, longPulse, delayTicks}
 use Rattle.record.specs.Fresh.{fresh, freshRegs}
 use Rattle.record.specs.Stages.{selected, heardUnderWip, foreignToWip, idAt, idIn, eepromAt, eepromIn}
+use Rattle.record.proofs.StageLaws.{idle, not-idle}
 use Rattle.refusals.specs.Range.{dividerAbove, startupAbove, countdownAbove, pulseAbove, delayAbove, watchdogPast, offsetAbove, idPointerAbove, eepromPointerPast, insideMask, bitOutside, startupStopped, busyWithoutPower, foreignFrame, countersOut, frameOut, outOfRange}
 use Rattle.refusals.specs.InRange.{InRange}
 use Rattle.refusals.specs.Rows.{IdPointer, id-read, id-written, id-cycle, EepromPointer, eeprom-read, eeprom-written, eeprom-cycle, HeardFrame, instruction, eeread, eewrite, read, write, idread, idwrite, srwrite, srwrite-more, unlock, unlock-more, clrwdt, clrwdt-more, clrram, clrram-more, eewren-more, eewrdi-more, Five, srread-five, read-five, write-five, clrwdt-five, clrram-five, RangeRow, divider, startup, countdown, pulse, delay, watchdog, offset, idPointer, eepromPointer, outside, stopped, unpowered, foreign}
@@ -91,32 +92,6 @@ in-range part d e =
       offStill = λ o. omega (arith, ltb-false 0 (y .left) (neither-right (selected s) (ltb 0 (y .left)) (off o)));
       heard = λ h. other-fails (m .5) (lt-ltb 0 (y .left) h);
     }
-
--- selected, in words: the stage is not idle
-pub idle : (s : Stage) → selected s ≡ false → s ≡ Idle
-idle Idle e = refl
-idle Opened e = absurd (true≢false e)
-idle Unheard e = absurd (true≢false e)
-idle (Instruction c) e = absurd (true≢false e)
-idle (EepromRead a) e = absurd (true≢false e)
-idle (EepromWrite a) e = absurd (true≢false e)
-idle (ClockRead a) e = absurd (true≢false e)
-idle (ClockWrite a) e = absurd (true≢false e)
-idle (IdRead a) e = absurd (true≢false e)
-idle (IdWrite a) e = absurd (true≢false e)
-idle (StatusWrite v) e = absurd (true≢false e)
-idle StatusWriteMore e = absurd (true≢false e)
-idle (UnlockSecond v) e = absurd (true≢false e)
-idle UnlockMore e = absurd (true≢false e)
-idle WatchdogSecond e = absurd (true≢false e)
-idle WatchdogMore e = absurd (true≢false e)
-idle RamSecond e = absurd (true≢false e)
-idle RamMore e = absurd (true≢false e)
-idle EnableMore e = absurd (true≢false e)
-idle DisableMore e = absurd (true≢false e)
-
-pub not-idle : (s : Stage) → selected s ≡ true → s ≢ Idle
-not-idle s e i = true-false e (ap selected i)
 
 -- the five, in words
 five : (c : Code) → heardUnderWip c ≡ true → Five c

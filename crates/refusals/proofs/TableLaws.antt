@@ -21,14 +21,11 @@ use Rattle.record.specs.Part.{isPart, sizeOf, idSize}
 use Rattle.record.specs.Registers.{waitLimit}
 use Rattle.record.specs.Fresh.{fresh}
 use Rattle.record.specs.Stages.{selected}
+use Rattle.record.proofs.StageLaws.{idle, not-idle}
 use Rattle.refusals.specs.Range.{countersOut, frameOut, bitOutside, outOfRange}
 use Rattle.refusals.specs.Refusal.{wrongLength, wrongNumber, wrongPower, wrongSelect, refusalOf}
 use Rattle.refusals.specs.Rows.{PartRow, LengthRow, RangeRow, NumberRow, leftover, wait, byte, mask, select, up, PowerRow, select-off, byte-off, end-off, cut-off, up-on, SelectedRow, select-again, NotSelectedRow, byte-alone, end-alone, Row, table, First, Answered}
-use Rattle.refusals.proofs.RangeLaws.{idle, not-idle, range-row}
-
--- the parts' lengths in bytes: 1 Kbit, 2 Kbit, 1 Kbit, 2 Kbit
-pub sizes : (sizeOf 1 ≡ 128) × (sizeOf 2 ≡ 256) × (sizeOf 3 ≡ 128) × (sizeOf 4 ≡ 256)
-sizes = (refl, refl, refl, refl)
+use Rattle.refusals.proofs.RangeLaws.{range-row}
 
 -- Each row is what its test says.
 

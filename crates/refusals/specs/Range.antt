@@ -1,5 +1,6 @@
 -- Number 6: the record is out of range. Document 01, "Acts and refusal numbers": each row of the list a test over the fields
--- that it reads, in the paper's order. A record that no row names is in range and answers as a chip.
+-- that it reads, the tests in the paper's order. `outOfRange` joins them in three groups: counters, frame and cycle, bits; as
+-- all answer 6, their order there tells nothing. A record that no row names is in range and answers as a chip.
 -- Every EEPROM and ID pointer is judged, in use or not; a clock address never is.
 -- Assumes nothing.
 use Prim.Native.Nat.{ℕ}
@@ -73,10 +74,12 @@ busyWithoutPower power s y = not power && (selected s || ltb 0 (y .left))
 abbrev pub foreignFrame : Stage → Cycle → Bool
 foreignFrame s y = ltb 0 (y .left) && foreignToWip s
 
+-- the rows that read counters, with the registers they go by
 unfoldable pub countersOut : Bool → List ℕ → Counters → Bool
 countersOut boots regs c =
     dividerAbove c || startupAbove c || pulseAbove c || delayAbove c || watchdogPast regs c || startupStopped boots regs c
 
+-- the rows that read frame, page load, cycle and power
 unfoldable pub frameOut : ℕ → Bool → Stage → Load → Cycle → Bool
 frameOut size power s l y =
     countdownAbove y || offsetAbove l || idPointerAbove s y || eepromPointerPast size s y || busyWithoutPower power s y || foreignFrame s y

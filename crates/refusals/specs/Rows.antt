@@ -1,5 +1,6 @@
--- The refusal table's rows as propositions, in the paper's words and with the paper's numbers, apart from the chain that
--- decides (Refusal, Range). That the chain answers by this table is proved in TableLaws.
+-- The refusal table's rows as propositions, in the paper's words and apart from the chain that decides (Refusal, Range). That
+-- the chain answers by this table is proved in TableLaws. The limits stand here with the paper's numbers, on purpose: a change of
+-- a limit alone is refused here.
 -- Document 01, "Acts and refusal numbers". Not number 7, which is the tape's.
 -- Assumes nothing.
 use Prim.Native.Nat.{ℕ, _<_, _≤_}

@@ -17,7 +17,7 @@ use Rattle.device.specs.Oscillator.{asked}
 use Rattle.device.specs.World.{World, world}
 use Rattle.device.specs.Tick.{withLeft, alive, Waited}
 use Rattle.device.specs.RecordTick.{DeviceWaited, plusDevice, deviceWaited}
-use Rattle.device.proofs.WatchdogLaws.{period-most}
+use Rattle.record.proofs.PeriodLaws.{period-most}
 use Rattle.device.proofs.WaitLaws.{WaitFrom, wait-dead, wait-both}
 use Rattle.waits.specs.Jump.{Quiet, counts, runs, jumped, above, watched, divided, quietTicks}
 use Rattle.waits.proofs.JumpLaws.{both-same, counters-same, wait-jump, quiet-most, quiet-ahead}

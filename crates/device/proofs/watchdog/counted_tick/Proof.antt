@@ -6,7 +6,7 @@ use lib.ListN.{getD}
 use borrow.Author.Tests.{lt-ltb, le-ltb}
 use Rattle.record.specs.declared.Device.{Device}
 use Rattle.record.specs.Registers.{watchdogAt, periodOf}
-use Rattle.device.proofs.WatchdogLaws.{period-least}
+use Rattle.record.proofs.PeriodLaws.{period-least}
 use borrow.Author.Needs.{needs}
 use Rattle.device.proofs.watchdog.counted_tick.Statement.{statement}
 use Rattle.device.proofs.watchdog.counted_tick.Tie as tie
