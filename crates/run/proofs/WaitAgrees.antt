@@ -1,7 +1,7 @@
 -- A wait keeps the agreement: the ticks that it used come off the ledger's cycle, and where they end it the bytes that change are the
 -- ledger's entries.
 -- Assumes nothing.
-use Prim.Native.Nat.{ℕ, _-_, _<_, _≤_}
+use Prim.Native.Nat.{ℕ, _<_, _≤_}
 use mathlib.Core.Path.{_≡_, sym, ap, subst, _∙_}
 use mathlib.Core.Bool.{Bool, false, _&&_}
 use mathlib.Core.List.{List}
