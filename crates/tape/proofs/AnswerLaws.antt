@@ -1,15 +1,16 @@
--- Laws of a line's answer: when it is 7; and as the code shows it: a refused line, a fresh chip, an act's outcome.
+-- Laws of a line's answer: when it is 7; that a refused line changes nothing; and as the code shows it: a refused line, a fresh chip, an
+-- act's outcome.
 -- Assumes nothing.
 use mathlib.Core.Path.{_≡_, refl, sym, ap, _∙_}
 use mathlib.Core.Logic.{_↔_}
-use mathlib.Core.Bool.{Bool, true, false, not, _||_}
+use mathlib.Core.Bool.{Bool, true, false, not, _||_, true≢false}
 use mathlib.Core.List.{List}
 use Prim.Native.Nat.{ℕ, _<_}
 use native.Mathlib.Omega.{arith}
 use lib.Dec.{eqb}
 use lib.ListN.{take, replicate}
 use Rattle.base.proofs.StoreLaws.{take-replicate}
-use Rattle.base.proofs.Tests.{by-cases, yes, no, pick-case, pick-same}
+use Rattle.base.proofs.Tests.{by-cases, yes, no, pick-case, pick-when, pick-same}
 use Rattle.record.specs.declared.Act.{Act}
 use Rattle.record.specs.declared.Device.{Device}
 use Rattle.record.specs.declared.Reply.the-variants.{Off}
@@ -19,8 +20,8 @@ use Rattle.record.proofs.PartLaws.{size-most}
 use Rattle.device.specs.World.{world}
 use Rattle.block.specs.Lines.{irqLow, wdoLow}
 use Rattle.acts.specs.declared.Answer.{Answer}
-use Rattle.acts.specs.Act.{performed, answered}
-use Rattle.acts.proofs.OutcomeLaws.{never-seven}
+use Rattle.acts.specs.Act.{Outcome, refusalIn, performed, answered}
+use Rattle.acts.proofs.OutcomeLaws.{done-zero, never-seven}
 use Rattle.text.specs.declared.Request.{Request}
 use Rattle.text.specs.declared.Request.the-variants.{PartLine, ActLine, Bad}
 use Rattle.text.specs.Text.{Buffer, append}
@@ -61,6 +62,27 @@ seven-asked line s Bad e = (λ k. bad (bad-line line .0 e), λ q. refl)
 pub seven-exactly : (line : List ℕ) (s : Setup) → (lineAnswer line s .number ≡ 7) ↔ SevenRow line s
 unfolding lineAnswer
 seven-exactly line s = seven-asked line s (requestOf line) refl
+
+-- A refused line changes nothing: a part that is refused does not count, and an act that is refused leaves the chip as it was.
+abbrev KeptBy : Setup → Answered → Type 0
+KeptBy s x = eqb (x .number) 0 ≡ false → x .after ≡ s
+
+act-kept : (a : Act) (n : ℕ) (s : Setup) → KeptBy s (outcomeAnswer (s .part) a (performed (s .part) a n (s .chip)))
+unfolding performed
+act-kept a n s =
+    pick-when (λ (o : Outcome). KeptBy s (outcomeAnswer (s .part) a o)) (eqb (refusalIn (s .part) a n (s .chip)) 0)
+    (λ t h. absurd (true≢false (sym (ap (λ (k : ℕ). eqb k 0) (done-zero (s .part) n (s .chip) a)) ∙ h)))
+    (λ f h. refl)
+
+request-kept : (r : Request) (s : Setup) → KeptBy s (requestAnswer r s)
+request-kept (PartLine n) s =
+    pick-when (KeptBy s) (noPart s) (λ t. pick-when (KeptBy s) (isPart n) (λ p h. absurd (true≢false h)) (λ p h. refl)) (λ f h. refl)
+request-kept (ActLine a n) s = pick-when (KeptBy s) (noPart s) (λ t h. refl) (λ f. act-kept a n s)
+request-kept Bad s = λ h. refl
+
+pub refused-kept : (line : List ℕ) (s : Setup) → eqb (lineAnswer line s .number) 0 ≡ false → lineAnswer line s .after ≡ s
+unfolding lineAnswer
+refused-kept line s = request-kept (requestOf line) s
 
 -- an answer's line with the levels of a part and a record
 abbrev pub lineOf : ℕ → Out → ℕ → Device → List ℕ

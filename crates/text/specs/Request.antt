@@ -23,7 +23,7 @@ unknownName PartName = false
 unknownName (ActName a) = false
 unknownName Unknown = true
 
--- 7: "a tape line not of the form below", as far as the line tells by itself: one of the four tests fails
+-- 7: "a tape line not of the form below", as far as the line tells by itself: its length, form, name or digits are wrong
 unfoldable pub badLine : List ℕ → Bool
 badLine line = tooLong line || not (inForm line) || unknownName (nameOf (nameText line)) || badDigits (digitsText line)
 
