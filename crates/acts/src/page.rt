@@ -32,11 +32,11 @@ pub fn store_target(target: Target, load: Load, mask: u8, eeprom: &mut [u8], id:
     let bytes = load.bytes;
     match target {
         Target::Eeprom(a) => {
-            let base = (a.0 / 8 * 8) as usize;
+            let base = a.page();
             store(&mut eeprom[base..base + 8], set, bytes);
         }
         Target::Id(a) => {
-            let base = (a.0 / 8 * 8) as usize;
+            let base = a.page();
             store(&mut id[base..base + 8], set, bytes);
         }
         Target::Status(_) => {}

@@ -29,8 +29,9 @@ fn first_protected(top: EepromAddress, p: Protection) -> u16
 fn page_protected(top: EepromAddress, p: Protection, a: EepromAddress) -> bool
     ensures { λ r. ⌜ r ≡ pageProtected (top .0 + 1) p (a .0) ⌝ }
 {
-    let page = (a.0 / 8 * 8) as u16;
-    first_protected(top, p) <= page
+    let page = a.page();
+    let first = first_protected(top, p) as usize;
+    first <= page
 }
 
 fn is_open(lock: Lock) -> bool

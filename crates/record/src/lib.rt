@@ -6,7 +6,7 @@ use registers::DATE;
 use registers::DAY;
 use registers::MONTH;
 ghost use mathlib.Core.Path.{_≡_};
-ghost use Rattle.record.specs.Address.{rollEeprom, takenEeprom, rollId, takenId, rollClock};
+ghost use Rattle.record.specs.Address.{rollEeprom, takenEeprom, rollId, takenId, rollClock, pageOf};
 ghost use Rattle.record.specs.Fresh.{freshRegs, fresh};
 
 pub mod number; // number.rt: the numbers of the enums' cases
@@ -167,6 +167,13 @@ impl EepromAddress {
             EepromAddress(0)
         }
     }
+
+    // Where its page begins in the memory.
+    pub fn page(self) -> usize
+        ensures { λ r. ⌜ r ≡ pageOf (self .0) ⌝ }
+    {
+        (self.0 / 8 * 8) as usize
+    }
 }
 
 impl IdAddress {
@@ -187,6 +194,13 @@ impl IdAddress {
         } else {
             IdAddress(0)
         }
+    }
+
+    // Where its page begins in the memory.
+    pub fn page(self) -> usize
+        ensures { λ r. ⌜ r ≡ pageOf (self .0) ⌝ }
+    {
+        (self.0 / 8 * 8) as usize
     }
 }
 

@@ -5,11 +5,19 @@ use record::part;
 use record::registers::WAIT_LIMIT;
 use record::stages;
 ghost use mathlib.Core.Path.{_≡_};
-ghost use Rattle.refusals.specs.Refusal.{wrongNumber, wrongPower, wrongSelect, firstRefusal, refusalOf};
+ghost use Rattle.refusals.specs.Refusal.{wrongLength, wrongNumber, wrongPower, wrongSelect, firstRefusal, refusalOf};
 
 pub mod range; // range.rt: number 6
 
 const ID_LENGTH: usize = part::ID_SIZE as usize;
+
+// A memory's length is not the part's.
+pub fn wrong_length(part: u64, eeprom: usize, id: usize) -> bool
+    ensures { λ r. ⌜ r ≡ wrongLength part eeprom id ⌝ }
+{
+    let size = part::size(part) as usize;
+    (eeprom != size) | (id != ID_LENGTH)
+}
 
 fn wrong_number(act: Act, n: u64) -> bool
     ensures { λ r. ⌜ r ≡ wrongNumber act n ⌝ }
@@ -51,7 +59,14 @@ fn wrong_select(act: Act, selected: bool) -> u8
 }
 
 // The order of the table: the first test that holds gives its number, else the last.
-fn first_refusal(part: bool, length: bool, range: bool, number: bool, power: bool, last: u8) -> u8
+pub fn first_refusal(
+    part: bool,
+    length: bool,
+    range: bool,
+    number: bool,
+    power: bool,
+    last: u8,
+) -> u8
     ensures { λ r. ⌜ r ≡ firstRefusal part length range number power last ⌝ }
 {
     if part {
@@ -77,7 +92,7 @@ pub fn refusal(part: u64, act: Act, number: u64, d: Device, eeprom: usize, id: u
     ensures { λ r. ⌜ r ≡ refusalOf part act number d eeprom id ⌝ }
 {
     let known = part::is_part(part);
-    let size = part::size(part) as usize;
+    let misfit = wrong_length(part, eeprom, id);
     let ranged = range::out_of_range(part, d);
     let wrong = wrong_number(act, number);
     let unpowered = wrong_power(act, d.power);
@@ -85,12 +100,5 @@ pub fn refusal(part: u64, act: Act, number: u64, d: Device, eeprom: usize, id: u
     let stage = frame.stage;
     let open = stages::is_selected(stage);
     let last = wrong_select(act, open);
-    first_refusal(
-        !known,
-        (eeprom != size) | (id != ID_LENGTH),
-        ranged,
-        wrong,
-        unpowered,
-        last,
-    )
+    first_refusal(!known, misfit, ranged, wrong, unpowered, last)
 }

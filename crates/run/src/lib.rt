@@ -19,14 +19,9 @@ pub struct Ran {
 fn refuses(part: u64, eeprom: usize, id: usize) -> u8
     ensures { λ r. ⌜ r ≡ refusesRun part eeprom id ⌝ }
 {
-    let size = record::part::size(part) as usize;
-    if !record::part::is_part(part) {
-        return 3;
-    }
-    if (eeprom != size) | (id != 16) {
-        return 4;
-    }
-    0
+    let known = record::part::is_part(part);
+    let misfit = refusals::wrong_length(part, eeprom, id);
+    refusals::first_refusal(!known, misfit, false, false, false, 0)
 }
 
 // The smaller of two lengths.

@@ -22,7 +22,7 @@ pub const KEPT_LIMIT: usize = text::line::LINE_LIMIT + 1;
 // The bytes of the largest EEPROM, and those of the ID.
 pub const EEPROM_ROOM: usize = 256;
 
-pub const ID_SIZE: usize = 16;
+pub const ID_SIZE: usize = record::part::ID_SIZE as usize;
 
 // A tape before its first line.
 pub fn start() -> Tape

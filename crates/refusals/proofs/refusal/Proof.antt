@@ -16,7 +16,7 @@ returns c =
       d .wrong-power .ensures,
       d .before .wrong-number .ensures,
       d .before .before .out-of-range .ensures,
-      d .before .before .before .size .ensures,
+      d .before .before .before .wrong-length .ensures,
       d .before .before .before .before .is-part .ensures,
     )
 
@@ -26,7 +26,6 @@ refusal-spec =
     (tie.spec
     (λ c κs. search needs)
     (λ c κs. search needs)
-    (λ c. search needs)
     (λ c κs. search needs)
     (λ c κs. search needs)
     (λ c κs. search needs)

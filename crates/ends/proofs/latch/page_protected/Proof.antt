@@ -8,7 +8,7 @@ pub page-protected-spec : {M : Type 1} → statement M
 page-protected-spec =
     tie.close
     (tie.spec
-    (λ c. search needs)
-    (λ c. search needs)
     (λ c κs. search needs)
-    (λ c. simp (c .first-protected .ensures)))
+    (λ c κs. search needs)
+    (λ c. search needs)
+    (λ c. simp (c .first-protected .ensures, c .before .page .ensures)))
