@@ -8,7 +8,7 @@ use lib.Bits.{bitOr}
 use lib.ListN.{getD, set}
 use Rattle.base.specs.Words.{pick}
 use Rattle.calendar.specs.declared.Advanced.{Advanced}
-use Rattle.record.specs.Registers.{hundredthsAt, secondsAt, minutesAt, hoursAt, dayAt, dateAt, monthAt, alarm0At, alarm1At}
+use Rattle.record.specs.Registers.{hundredthsAt, secondsAt, minutesAt, hoursAt, dayAt, dateAt, monthAt, alarm0At, alarm1At, alarm0MonthAt, alarm1HundredthsAt}
 use Rattle.block.specs.declared.alarm.Matches.{Matches}
 use Rattle.block.specs.Lines.{active}
 
@@ -33,10 +33,10 @@ allMatch m = ((m .seconds && m .minutes) && (m .hours && m .day)) && m .date
 
 -- month of alarm 0 (11h, bits 4:0) and hundredths of alarm 1 (12h)
 abbrev pub monthMatch : List ℕ → Bool
-monthMatch regs = agree 32 regs monthAt 0x11
+monthMatch regs = agree 32 regs monthAt alarm0MonthAt
 
 abbrev pub hundredthsMatch : List ℕ → Bool
-hundredthsMatch regs = agree 256 regs hundredthsAt 0x12
+hundredthsMatch regs = agree 256 regs hundredthsAt alarm1HundredthsAt
 
 -- "Alarm codes (bits 6:4 of 0Fh, 16h): 0 seconds, 1 minutes, 2 hours, 3 day, 4 date": tested "at the tick that advances the
 -- finest field it compares (bench)"

@@ -12,7 +12,7 @@ use Rattle.calendar.specs.Date.{leapYear}
 use Rattle.record.specs.declared.Device.{Device}
 use Rattle.record.specs.declared.Counters.{Counters}
 use Rattle.record.specs.declared.ClockAddress.{ClockAddress}
-use Rattle.record.specs.Registers.{secondsAt, hoursAt, dayAt, yearAt, watchdogAt, writable, startupTicks, delayTicks}
+use Rattle.record.specs.Registers.{secondsAt, hoursAt, dayAt, monthAt, yearAt, alarm0HoursAt, alarm1HoursAt, watchdogAt, writable, startupTicks, delayTicks}
 use Rattle.block.specs.Setters.{withRegs, withSram, withCounters}
 
 -- VBATEN is 04h bit 3
@@ -27,10 +27,10 @@ oscon c = eqb (c .startup) startupTicks
 -- read and not stored."
 abbrev pub made : Device → ℕ → ℕ
 made d a =
-    pick (eqb a 0x04) (pick (oscon (d .counters)) 0x20 0)
-    (pick (eqb a 0x06) (pick (leapYear (getD (d .regs) yearAt 0)) 0x20 0)
-    (pick (eqb a 0x0e) (pick (bit (getD (d .regs) hoursAt 0) 6) 0x40 0)
-    (pick (eqb a 0x15) (pick (bit (getD (d .regs) hoursAt 0) 6) 0x40 0)
+    pick (eqb a dayAt) (pick (oscon (d .counters)) 0x20 0)
+    (pick (eqb a monthAt) (pick (leapYear (getD (d .regs) yearAt 0)) 0x20 0)
+    (pick (eqb a alarm0HoursAt) (pick (bit (getD (d .regs) hoursAt 0) 6) 0x40 0)
+    (pick (eqb a alarm1HoursAt) (pick (bit (getD (d .regs) hoursAt 0) 6) 0x40 0)
     0)))
 
 -- what READ answers at an address; "From 60h up READ answers 0" (bench)

@@ -2,7 +2,9 @@
 use calendar::Advanced;
 use record::ClockAddress;
 use record::registers::ALARM_0;
+use record::registers::ALARM_0_MONTH;
 use record::registers::ALARM_1;
+use record::registers::ALARM_1_HUNDREDTHS;
 use record::registers::CONTROL;
 use record::registers::DATE;
 use record::registers::DAY;
@@ -82,7 +84,7 @@ fn matches_alarm_0(t: Advanced, regs: [u8; 32]) -> bool
     let m = matches_at(regs, FLAG_0);
     let code = regs[ALARM_0] / 16 % 8;
     if code == 7 {
-        let month = regs[MONTH] % 32 == regs[0x11] % 32;
+        let month = regs[MONTH] % 32 == regs[ALARM_0_MONTH] % 32;
         let whole = t.seconds & (all_match(m) & month);
         return plain_match(t, m, code, whole);
     }
@@ -99,7 +101,7 @@ fn matches_alarm_1(t: Advanced, regs: [u8; 32]) -> bool
         return plain_match(t, m, code, whole);
     }
     if code == 5 {
-        let hundredths = regs[HUNDREDTHS] == regs[0x12];
+        let hundredths = regs[HUNDREDTHS] == regs[ALARM_1_HUNDREDTHS];
         return plain_match(t, m, code, hundredths);
     }
     plain_match(t, m, code, false)

@@ -2,9 +2,15 @@
 use record::ClockAddress;
 use record::Counters;
 use record::Device;
+use record::registers::ALARM_0_HOURS;
+use record::registers::ALARM_1_HOURS;
 use record::registers::DAY;
+use record::registers::DELAY_TICKS;
 use record::registers::HOURS;
+use record::registers::MONTH;
+use record::registers::SECONDS;
 use record::registers::STARTUP_TICKS;
+use record::registers::WATCHDOG;
 use record::registers::WRITABLE;
 use record::registers::YEAR;
 ghost use mathlib.Core.Path.{_≡_};
@@ -36,18 +42,18 @@ fn bits_if(test: bool, v: u8) -> u8
 fn made_bits(d: Device, at: ClockAddress) -> u8
     ensures { λ r. ⌜ r ≡ made d (at .0) ⌝ }
 {
-    let a = at.0;
-    if a == 0x04 {
+    let a = at.0 as usize;
+    if a == DAY {
         let c = d.counters;
         return bits_if(is_oscon(c), 0x20);
     }
-    if a == 0x06 {
+    if a == MONTH {
         return bits_if(calendar::leap(d.regs[YEAR]), 0x20);
     }
-    if a == 0x0e {
+    if a == ALARM_0_HOURS {
         return bits_if(d.regs[HOURS] / 64 % 2 == 1, 0x40);
     }
-    if a == 0x15 {
+    if a == ALARM_1_HOURS {
         return bits_if(d.regs[HOURS] / 64 % 2 == 1, 0x40);
     }
     0
@@ -74,8 +80,8 @@ pub fn read_clock(d: Device, at: ClockAddress) -> u8
 fn after_write(boots: bool, at: ClockAddress, v: u8, c: Counters) -> Counters
     ensures { λ r. ⌜ r ≡ afterWrite boots (at .0) v c ⌝ }
 {
-    let a = at.0;
-    if a == 0x01 {
+    let a = at.0 as usize;
+    if a == SECONDS {
         if !boots & !(v / 128 % 2 == 1) {
             let mut next = c;
             next.startup = 0;
@@ -83,11 +89,11 @@ fn after_write(boots: bool, at: ClockAddress, v: u8, c: Counters) -> Counters
         }
         return c;
     }
-    if a == 0x0a {
+    if a == WATCHDOG {
         let mut next = c;
         next.watchdog = 0;
         if (v / 128 % 2 == 1) & (v / 32 % 2 == 1) & !(v / 64 % 2 == 1) {
-            next.delay = record::registers::DELAY_TICKS;
+            next.delay = DELAY_TICKS;
             return next;
         }
         next.delay = 0;

@@ -42,6 +42,19 @@ alarm0At = 0x0f
 abbrev pub alarm1At : ℕ
 alarm1At = 0x16
 
+-- what only one of them has, and their hours
+abbrev pub alarm0MonthAt : ℕ
+alarm0MonthAt = 0x11
+
+abbrev pub alarm1HundredthsAt : ℕ
+alarm1HundredthsAt = 0x12
+
+abbrev pub alarm0HoursAt : ℕ
+alarm0HoursAt = 0x0e
+
+abbrev pub alarm1HoursAt : ℕ
+alarm1HoursAt = 0x15
+
 -- Document 01, "Frames": the mask of writable bits, 00h to 1Fh.
 abbrev pub writable : List ℕ
 writable =

@@ -23,8 +23,16 @@ pub const CONTROL: usize = 0x08;
 
 pub const WATCHDOG: usize = 0x0a;
 
-// The flag register of each alarm.
+// The alarms: their hours, the register of their flag, and what only one of them has.
+pub const ALARM_0_HOURS: usize = 0x0e;
+
 pub const ALARM_0: usize = 0x0f;
+
+pub const ALARM_0_MONTH: usize = 0x11;
+
+pub const ALARM_1_HUNDREDTHS: usize = 0x12;
+
+pub const ALARM_1_HOURS: usize = 0x15;
 
 pub const ALARM_1: usize = 0x16;
 

@@ -1,6 +1,7 @@
 -- `block::registers::after_write` meets its contract.
 -- Assumes nothing.
 use borrow.Author.Tests.{eq-eqb, ne-eqb}
+use borrow.Author.Needs.{needs}
 use Rattle.block.specs.Registers.{afterWrite}
 use Rattle.block.proofs.registers.after_write.Statement.{statement}
 use Rattle.block.proofs.registers.after_write.Tie as tie
@@ -29,6 +30,7 @@ pub after-write-spec : {M : Type 1} → statement M
 after-write-spec =
     tie.close
     (tie.spec
+    (λ c. search needs)
     returns
     returns-2
     returns-3

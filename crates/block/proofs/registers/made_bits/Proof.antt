@@ -28,6 +28,7 @@ pub made-bits-spec : {M : Type 1} → statement M
 made-bits-spec =
     tie.close
     (tie.spec
+    (λ c. search needs)
     (λ c κs. search needs)
     (λ c κs. search needs)
     returns
