@@ -25,6 +25,7 @@ use Rattle.ends.specs.End.{afterEnd}
 use Rattle.ends.proofs.EndLaws.{end-in-range, end-sram-length}
 use Rattle.acts.specs.Act.{Outcome, accepted, refusalIn, performed, moved}
 use Rattle.acts.specs.Shape.{Shaped}
+use Rattle.acts.proofs.OutcomeLaws.{refused-same}
 
 pub record Kept (part : ℕ) (w : World) : Type 0 where
   pub range : InRange part (w .device)
@@ -100,4 +101,4 @@ unfolding performed
 performed-kept part act n w g s =
     pick-when (λ (o : Outcome). Kept part (o .after)) (eqb (refusalIn part act n w) 0)
     (λ t. accepted-kept part act n w g s (eqb-true (refusalIn part act n w) 0 t))
-    (λ t. record { range = g; shaped = s })
+    (λ t. subst (Kept part) (sym (refused-same (refusalIn part act n w) w)) (record { range = g; shaped = s }))

@@ -27,6 +27,10 @@ done-zero part n w Wait = refl
 done-zero part n w Cut = refl
 done-zero part n w Up = refl
 
+-- a refused act changes nothing
+pub refused-same : (number : ℕ) (w : World) → refused number w .after ≡ w
+refused-same number w = refl
+
 -- every act is answered with the table's number, refused or not
 pub answered-by-table : (part : ℕ) (act : Act) (n : ℕ) (w : World) → performed part act n w .number ≡ refusalIn part act n w
 unfolding performed

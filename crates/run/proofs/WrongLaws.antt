@@ -26,11 +26,11 @@ use Rattle.ledger.specs.Frames as frames
 use Rattle.ledger.specs.Bytes as bytes
 use Rattle.ledger.specs.Steps as steps
 use Rattle.run.specs.Claim.{Chip, Input, DemandThree, ourChip, worldAfter, fed}
-use Rattle.run.specs.Wrong.{kindChip, deafChip, emptyChip, masklessChip, locklessChip, sent, wholeCase, enableForgotten, cutWithNothing, lockForgotten, Differs, Refutations, Witnesses}
+use Rattle.run.specs.Wrong.{enablelessChip, deafChip, emptyChip, masklessChip, locklessChip, sent, wholeCase, enableForgotten, cutWithNothing, lockForgotten, Differs, Refutations, Witnesses}
 
 -- both statements compute
 computed : Refutations × Witnesses
-unfolding Refutations Witnesses worldAfter fed kindChip deafChip emptyChip masklessChip locklessChip ourChip performed refusalOf outOfRange countersOut frameOut bitOutside every fresh sent afterSelect afterByte nextReply afterEnd carried cycleAfter welAfter waited tick cycleTick cycleDevice clockwork changed irqLow wdoLow oscillatorTick watchdogTick calendarTick afterCut cutCount cutWorld storeUnder members start noByte noCycle frames.firstByte frames.laterByte frames.carried frames.cycleOf frames.welAfter frames.lockAfter bytes.isLoaded bytes.loadedByte bytes.entriesUnder bytes.entriesAfter bytes.bpAfter bytes.byteOf steps.refused steps.onSelect steps.onByte steps.onEnd steps.ticked steps.waited steps.finished steps.onWait steps.onCut steps.follow steps.ledgerRun
+unfolding Refutations Witnesses worldAfter fed enablelessChip deafChip emptyChip masklessChip locklessChip ourChip performed refusalOf outOfRange countersOut frameOut bitOutside every fresh sent afterSelect afterByte nextReply afterEnd carried cycleAfter welAfter waited tick cycleTick cycleDevice clockwork changed irqLow wdoLow oscillatorTick watchdogTick calendarTick afterCut cutCount cutWorld storeUnder members start noByte noCycle frames.firstByte frames.laterByte frames.carried frames.cycleOf frames.welAfter frames.lockAfter bytes.isLoaded bytes.loadedByte bytes.entriesUnder bytes.entriesAfter bytes.bpAfter bytes.byteOf steps.refused steps.onSelect steps.onByte steps.onEnd steps.ticked steps.waited steps.finished steps.onWait steps.onCut steps.follow steps.ledgerRun
 computed = (
   ((refl, refl), (refl, refl), (refl, refl), (refl, refl), (refl, refl)),
   ((refl, refl, refl, refl, refl), (refl, refl, refl, refl, refl), (refl, refl, refl, refl, refl), (refl, refl, refl, refl, refl)),
@@ -53,9 +53,9 @@ refuted-id :
 unfolding DemandThree
 refuted-id chip xs p a b h d e claim = eqb-false a b e (sym (d .0) ∙ claim 2 refl xs .idBytes p h ∙ d .1)
 
-pub kind-fails : DemandThree kindChip → ⊥
+pub enableless-fails : DemandThree enablelessChip → ⊥
 unfolding Refutations
-kind-fails = refuted-eeprom kindChip enableForgotten 0 52 255 (omega arith) (refutations .0) refl
+enableless-fails = refuted-eeprom enablelessChip enableForgotten 0 52 255 (omega arith) (refutations .0) refl
 
 pub deaf-fails : DemandThree deafChip → ⊥
 unfolding Refutations

@@ -24,14 +24,14 @@ abbrev pub unlockedWorld : World → World
 unlockedWorld w =
     world (withGuard (w .device) (record { wel = w .device .guard .wel; protection = w .device .guard .protection; lock = Open })) (w .eeprom) (w .id)
 
--- The kind chip of the old days: at an end the latch counts as set, so that a write goes through without the enable.
-unfoldable pub kindChip : Chip
-kindChip part Select n w = ourChip part Select n w
-kindChip part Byte n w = ourChip part Byte n w
-kindChip part End n w = ourChip part End n (latchedAt true w)
-kindChip part Wait n w = ourChip part Wait n w
-kindChip part Cut n w = ourChip part Cut n w
-kindChip part Up n w = ourChip part Up n w
+-- A chip that needs no enable: at an end the latch counts as set, so that a write goes through without it.
+unfoldable pub enablelessChip : Chip
+enablelessChip part Select n w = ourChip part Select n w
+enablelessChip part Byte n w = ourChip part Byte n w
+enablelessChip part End n w = ourChip part End n (latchedAt true w)
+enablelessChip part Wait n w = ourChip part Wait n w
+enablelessChip part Cut n w = ourChip part Cut n w
+enablelessChip part Up n w = ourChip part Up n w
 
 -- A chip that never hears an enable: its latch is clear after every act.
 unfoldable pub deafChip : Chip
@@ -112,7 +112,7 @@ Differs chip part xs m p holds owes = (held chip part xs m p ≡ holds) × (owed
 -- each wrong chip with the run, the place and the two bytes that refute it
 unfoldable pub Refutations : Type 0
 Refutations =
-    Differs kindChip 2 enableForgotten eeprom 0 52 255
+    Differs enablelessChip 2 enableForgotten eeprom 0 52 255
     × Differs deafChip 2 wholeCase eeprom 0 255 52
     × Differs emptyChip 2 wholeCase eeprom 0 255 52
     × Differs masklessChip 2 cutWithNothing eeprom 0 52 255

@@ -23,7 +23,7 @@ use Rattle.text.specs.declared.Request.{Request}
 use Rattle.text.specs.declared.Request.the-variants.{PartLine, ActLine, Bad}
 use Rattle.text.specs.Request.{requestOf}
 use Rattle.text.specs.Print.{shown, z, outOf}
-use Rattle.tape.specs.Answer.{Setup, setup, noPart, Answered, refusedLine, outcomeAnswer, freshSetup, requestAnswer, lineAnswer}
+use Rattle.answers.specs.Answer.{Setup, setup, noPart, Answered, refusedLine, outcomeAnswer, freshSetup, requestAnswer, lineAnswer}
 use Rattle.tape.specs.Tape.{linesFrom}
 use Rattle.tape.specs.Steps.{setupAfter, ticksOf, ticksPrinted, stepOf, stepsFrom, TapeAccounted, BytesAccounted}
 use Rattle.tape.proofs.WholeLaws.{setup-lines}

@@ -1,4 +1,3 @@
-pub mod AnswerLaws
 pub mod TapeLaws
 pub mod WholeLaws
 pub mod LedgerLaws

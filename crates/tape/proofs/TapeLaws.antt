@@ -23,7 +23,7 @@ use Rattle.text.specs.Request.{requestOf}
 use Rattle.text.specs.Print.{newline, answerRoom}
 use Rattle.text.proofs.TextLaws.{leading-first, leading-rest, leading-taken, leading-ends, leading-within, append-none, append-join}
 use Rattle.text.proofs.LineLaws.{long-bad}
-use Rattle.tape.specs.Answer.{Setup, requestAnswer, lineAnswer, Shown, shownIn, eepromRoom}
+use Rattle.answers.specs.Answer.{Setup, requestAnswer, lineAnswer, Shown, shownIn, eepromRoom}
 use Rattle.tape.specs.Tape.{State, state, kept, keptLimit, Fed, fedTo, ended, fedByte, after, fed, finished, plain, takenWithin, Taken, putInto, roomIn, feedInto, buffersFit}
 
 -- two chunks answer as their join does

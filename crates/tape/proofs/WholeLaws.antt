@@ -17,7 +17,7 @@ use Rattle.text.specs.declared.Request.{Request}
 use Rattle.text.specs.declared.Request.the-variants.{PartLine, ActLine, Bad}
 use Rattle.text.specs.Request.{requestOf}
 use Rattle.text.specs.Print.{newline, answerRoom}
-use Rattle.tape.specs.Answer.{Setup, setup, Answered, refusedLine, requestAnswer, lineAnswer, answerText}
+use Rattle.answers.specs.Answer.{Setup, setup, Answered, refusedLine, requestAnswer, lineAnswer, answerText}
 use Rattle.tape.specs.Tape.{lastLine, linesFrom, answersTo, tapeAnswers, emptySetup, State, state, kept, Fed, fedTo, ended, fedByte, after, fed, finished, answersFrom, takenWithin}
 use Rattle.tape.specs.Steps.{setupAfter}
 use Rattle.tape.proofs.TapeLaws.{after-join, kept-join, kept-answers, fed-none}

@@ -7,16 +7,15 @@ use mathlib.Core.Bool.{false}
 use mathlib.Core.List.{List, [], _∷_, _++_}
 use Rattle.base.specs.Words.{pick}
 use Rattle.record.specs.declared.Act.{Act}
-use Rattle.record.specs.declared.Act.the-variants.{Select, Byte, End, Wait, Cut, Up}
 use Rattle.device.specs.World.{World}
 use Rattle.ledger.specs.State.{Step, start}
 use Rattle.ledger.specs.Steps.{ledgerRun}
-use Rattle.run.specs.Claim.{named, Accounted}
+use Rattle.run.specs.Claim.{named, usedBy, Accounted}
 use Rattle.text.specs.declared.Request.{Request}
 use Rattle.text.specs.declared.Request.the-variants.{PartLine, ActLine, Bad}
 use Rattle.text.specs.Request.{requestOf}
 use Rattle.text.specs.Print.{Out, shown, z}
-use Rattle.tape.specs.Answer.{Setup, setup, noPart, lineAnswer}
+use Rattle.answers.specs.Answer.{Setup, setup, noPart, lineAnswer}
 use Rattle.tape.specs.Tape.{state, fed, finished, linesFrom}
 
 -- what is left after lines
@@ -30,12 +29,7 @@ ticksOf (shown n) = n
 ticksOf z = 0
 
 abbrev pub ticksPrinted : Act → Out → ℕ
-ticksPrinted Select out = 0
-ticksPrinted Byte out = 0
-ticksPrinted End out = 0
-ticksPrinted Wait out = ticksOf out
-ticksPrinted Cut out = 0
-ticksPrinted Up out = 0
+ticksPrinted a out = usedBy a (ticksOf out)
 
 -- what the ledger is fed of a line with what is printed for it
 abbrev pub stepOf : Request → Setup → Out → List Step

@@ -15,7 +15,7 @@ use Rattle.text.specs.Line.{lineLimit}
 use Rattle.text.specs.Print.{newline, answerRoom}
 use Rattle.tape.specs.declared.Tape.{Tape}
 use Rattle.tape.specs.declared.Feed.{Feed}
-use Rattle.tape.specs.Answer.{Setup, setup, Answered, lineAnswer, answerText, eepromRoom, setupOf}
+use Rattle.answers.specs.Answer.{Setup, setup, Answered, lineAnswer, answerText, eepromRoom, setupOf}
 
 -- "a last line without one is a line too", where it has begun
 abbrev pub lastLine : List ℕ → List (List ℕ)

@@ -1,9 +1,8 @@
 // A tape as it comes, chunk by chunk. Lent to each call: 65 bytes for the beginning of a line that has not ended, the 256 bytes of the
 // largest EEPROM, the 16 ID bytes, and the output.
 use crate::Feed;
-use crate::Progress;
 use crate::Tape;
-use crate::answer;
+use answers::Progress;
 ghost use mathlib.Core.Path.{_≡_};
 ghost use mathlib.Core.Bool.{true};
 ghost use mathlib.Core.List.{_++_};
@@ -13,7 +12,7 @@ ghost use Rattle.record.specs.Part.{idSize};
 ghost use Rattle.record.specs.Fresh.{fresh};
 ghost use Rattle.text.specs.Text.{leading, buffer};
 ghost use Rattle.text.specs.Print.{answerRoom};
-ghost use Rattle.tape.specs.Answer.{lineAnswer, shownIn, shownBy, setupOf, eepromRoom};
+ghost use Rattle.answers.specs.Answer.{lineAnswer, shownIn, shownBy, setupOf, eepromRoom};
 ghost use Rattle.tape.specs.Tape.{plain, kept, keptLimit, finished, feedInto, finishInto, putInto, buffersFit, stateOf, takenBy};
 
 // How much of a line is kept: one character more than a line may have tells that it is too long.
@@ -84,10 +83,10 @@ fn end_line(
     ensures { λ r. ⌜ shownBy r (now (eeprom .exit)) (now (id .exit)) (now (out .exit)) ≡ shownIn (buffer (now (out .entry)) (p .at)) (lineAnswer (kept (take begun (now (line .entry)) ++ now (piece .entry))) (setupOf (p .part) (p .device) (now (eeprom .entry)) (now (id .entry)))) ⌝ }
 {
     if begun == 0 {
-        return answer::answer_line(piece, p, eeprom, id, out);
+        return answers::answer_line(piece, p, eeprom, id, out);
     }
     let n = keep(piece, line, begun);
-    answer::answer_line(&line[..n], p, eeprom, id, out)
+    answers::answer_line(&line[..n], p, eeprom, id, out)
 }
 
 // The room in an output of n bytes from a place on.
@@ -200,7 +199,7 @@ fn finish_line(
         device,
         at,
     };
-    let q = answer::answer_line(&line[..begun], p, eeprom, id, out);
+    let q = answers::answer_line(&line[..begun], p, eeprom, id, out);
     feed_of(q, 0, 0)
 }
 

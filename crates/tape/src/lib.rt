@@ -1,15 +1,7 @@
-// The tape: bytes to acts, answers to bytes.
+// The tape as bytes: its lines as they come, chunk by chunk.
 use record::Device;
 
-pub mod answer; // answer.rt: what a line answers
 pub mod chunk; // chunk.rt: a tape as it comes, chunk by chunk
-
-// How far a tape has come between two lines: its part, 0 while none is accepted, the chip's record, and the place in the output.
-pub struct Progress {
-    pub part: u64,
-    pub device: Device,
-    pub at: usize,
-}
 
 // A tape between two chunks: its part, 0 while none is accepted, the chip's record, and how many bytes of a line that has not ended are kept.
 pub struct Tape {

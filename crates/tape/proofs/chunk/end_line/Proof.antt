@@ -7,7 +7,7 @@ use Prim.Native.Nat.{ℕ}
 use lib.ListN.{take}
 use lib.Seq.{length-take-le}
 use Rattle.text.specs.Text.{buffer}
-use Rattle.tape.specs.Answer.{setupOf, lineAnswer, shownIn}
+use Rattle.answers.specs.Answer.{setupOf, lineAnswer, shownIn}
 use Rattle.tape.specs.Tape.{kept}
 use Rattle.tape.proofs.TapeLaws.{kept-answers}
 use borrow.Author.Needs.{needs}

@@ -6,7 +6,7 @@ use mathlib.Core.Path.{_≡_, refl, ap, _∙_}
 use Prim.Native.Nat.{_-_, _≤_}
 use lib.ListN.{length, take, length-take}
 use Rattle.text.specs.Text.{buffer}
-use Rattle.tape.specs.Answer.{Shown, setupOf}
+use Rattle.answers.specs.Answer.{Shown, setupOf}
 use Rattle.tape.specs.declared.Feed.{Feed}
 use Rattle.tape.specs.Tape.{keptLimit, state, stateOf, takenBy}
 use Rattle.tape.proofs.TapeLaws.{Sofar, sofar-start, sofar-done, end-within, turn-stop, turn-line, stops, goes}

@@ -7,7 +7,7 @@ use Prim.Native.Nat.{ℕ}
 use lib.ListN.{length, take}
 use lib.Seq.{length-take-le}
 use Rattle.text.specs.Text.{buffer}
-use Rattle.tape.specs.Answer.{Shown}
+use Rattle.answers.specs.Answer.{Shown}
 use Rattle.tape.specs.declared.Feed.{Feed}
 use Rattle.tape.specs.Tape.{state, stateOf, takenBy}
 use Rattle.tape.proofs.TapeLaws.{finish-none, finish-some}

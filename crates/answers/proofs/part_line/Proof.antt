@@ -1,4 +1,4 @@
--- `tape::answer::part_line` meets its contract: a part again, no part of the four, a fresh chip.
+-- `answers::part_line` meets its contract: a part again, no part of the four, a fresh chip.
 -- Assumes nothing.
 use native.Mathlib.Omega.{arith}
 use mathlib.Core.Path.{_≡_, sym, ap, _∙_}
@@ -10,11 +10,11 @@ use borrow.Author.Tests.{not-true, not-false}
 use Rattle.base.proofs.Tests.{yes, no}
 use Rattle.record.specs.Part.{isPart}
 use Rattle.text.specs.Text.{buffer}
-use Rattle.tape.specs.Answer.{shownIn}
-use Rattle.tape.proofs.AnswerLaws.{fresh-shown}
+use Rattle.answers.specs.Answer.{shownIn}
+use Rattle.answers.proofs.AnswerLaws.{fresh-shown}
 use borrow.Author.Needs.{needs}
-use Rattle.tape.proofs.answer.part_line.Statement.{statement}
-use Rattle.tape.proofs.answer.part_line.Tie as tie
+use Rattle.answers.proofs.part_line.Statement.{statement}
+use Rattle.answers.proofs.part_line.Tie as tie
 
 returns : tie.Need-returns
 returns c =

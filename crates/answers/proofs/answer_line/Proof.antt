@@ -1,14 +1,14 @@
--- `tape::answer::answer_line` meets its contract, by what the line asks for.
+-- `answers::answer_line` meets its contract, by what the line asks for.
 -- Assumes nothing.
 use mathlib.Core.Path.{_≡_, sym, ap, _∙_}
 use Rattle.text.specs.declared.Request.{Request}
 use Rattle.text.specs.declared.Request.the-variants.{PartLine, ActLine, Bad}
 use Rattle.text.specs.Text.{buffer}
 use Rattle.text.specs.Request.{requestOf}
-use Rattle.tape.specs.Answer.{setupOf, requestAnswer, lineAnswer, shownIn}
+use Rattle.answers.specs.Answer.{setupOf, requestAnswer, lineAnswer, shownIn}
 use borrow.Author.Needs.{needs}
-use Rattle.tape.proofs.answer.answer_line.Statement.{statement}
-use Rattle.tape.proofs.answer.answer_line.Tie as tie
+use Rattle.answers.proofs.answer_line.Statement.{statement}
+use Rattle.answers.proofs.answer_line.Tie as tie
 
 returns : tie.Need-returns
 unfolding lineAnswer

@@ -1,5 +1,4 @@
 // What a line answers. The EEPROM is lent as the 256 bytes of the largest part; a 1 Kbit part has the first 128.
-use crate::Progress;
 use record::Act;
 use record::Device;
 use record::Reply;
@@ -14,7 +13,14 @@ ghost use Rattle.record.specs.Part.{idSize};
 ghost use Rattle.block.specs.Lines.{irqLow, wdoLow};
 ghost use Rattle.text.specs.Text.{buffer, append};
 ghost use Rattle.text.specs.Print.{outOf, answerLine, answerRoom};
-ghost use Rattle.tape.specs.Answer.{partAnswer, actAnswer, refusedLine, lineAnswer, shownIn, shownBy, setupOf, eepromRoom};
+ghost use Rattle.answers.specs.Answer.{partAnswer, actAnswer, refusedLine, lineAnswer, shownIn, shownBy, setupOf, eepromRoom};
+
+// How far a tape has come between two lines: its part, 0 while none is accepted, the chip's record, and the place in the output.
+pub struct Progress {
+    pub part: u64,
+    pub device: Device,
+    pub at: usize,
+}
 
 // A level is high without a part, and where the chip does not hold it low.
 fn high(part: u64, low: bool) -> bool

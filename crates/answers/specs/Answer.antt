@@ -20,7 +20,7 @@ use Rattle.text.specs.declared.Request.the-variants.{PartLine, ActLine, Bad}
 use Rattle.text.specs.Text.{Buffer, buffer, append}
 use Rattle.text.specs.Request.{badLine, requestOf}
 use Rattle.text.specs.Print.{Out, z, counts, outOf, answerLine}
-use Rattle.tape.specs.declared.Progress.{Progress}
+use Rattle.answers.specs.declared.Progress.{Progress}
 
 -- the part that was accepted, 0 while there is none, and its chip with the memories
 pub record Setup : Type 0 where

@@ -1,4 +1,4 @@
--- `tape::answer::put_line` meets its contract.
+-- `answers::put_line` meets its contract.
 -- Assumes nothing.
 use mathlib.Core.Path.{_≡_, ap, _∙_}
 use mathlib.Core.Bool.{Bool, not, _||_}
@@ -7,8 +7,8 @@ use Rattle.block.specs.Lines.{irqLow, wdoLow}
 use Rattle.text.specs.Text.{buffer, append}
 use Rattle.text.specs.Print.{outOf, answerLine}
 use borrow.Author.Needs.{needs}
-use Rattle.tape.proofs.answer.put_line.Statement.{statement}
-use Rattle.tape.proofs.answer.put_line.Tie as tie
+use Rattle.answers.proofs.put_line.Statement.{statement}
+use Rattle.answers.proofs.put_line.Tie as tie
 
 returns : tie.Need-returns
 returns c =

@@ -1,8 +1,8 @@
--- `record::number::lock_of` meets its contract.
+-- `numbers::lock_of` meets its contract.
 -- Assumes nothing.
 use borrow.Author.Tests.{ne-eqb}
-use Rattle.record.proofs.number.lock_of.Statement.{statement}
-use Rattle.record.proofs.number.lock_of.Tie as tie
+use Rattle.numbers.proofs.lock_of.Statement.{statement}
+use Rattle.numbers.proofs.lock_of.Tie as tie
 
 pub lock-of-spec : {M : Type 1} → statement M
 lock-of-spec =

@@ -28,7 +28,7 @@ use Rattle.text.specs.Text.{Buffer, append}
 use Rattle.text.specs.Request.{requestOf}
 use Rattle.text.specs.Print.{Out, z, counts, outOf, answerLine}
 use Rattle.text.proofs.LineLaws.{bad-line}
-use Rattle.tape.specs.Answer.{Setup, setup, setupOf, noPart, freshSetup, Answered, answer, refusedLine, partAnswer, outcomeAnswer, actAnswer, requestAnswer, lineAnswer, SevenRow, bad, early, again, answerText, Shown, shownIn, eepromRoom}
+use Rattle.answers.specs.Answer.{Setup, setup, setupOf, noPart, freshSetup, Answered, answer, refusedLine, partAnswer, outcomeAnswer, actAnswer, requestAnswer, lineAnswer, SevenRow, bad, early, again, answerText, Shown, shownIn, eepromRoom}
 
 -- A part's line is answered 7 only after a part, an act's line only before one.
 part-below : (n : ℕ) (s : Setup) → noPart s ≡ true → partAnswer n s .number < 7

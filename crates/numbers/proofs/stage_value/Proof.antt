@@ -1,4 +1,4 @@
--- `record::number::stage_value` meets its contract: the last arm is the stages that carry nothing, by their tags.
+-- `numbers::stage_value` meets its contract: the last arm is the stages that carry nothing, by their tags.
 -- Assumes nothing.
 use borrow.Author.Needs.{needs}
 use mathlib.Core.Path.{_≡_, refl}
@@ -6,12 +6,12 @@ use mathlib.Core.List.{List, [], _∷_}
 use Prim.Native.Nat.{ℕ}
 use types.Run.{OneOf, miss}
 use denote.Enum.Declared.{tagOf}
 use Rattle.record.specs.declared.Stage.{Stage}
 use Rattle.record.specs.declared.Stage.the-variants.{Idle, Opened, Unheard, Instruction, EepromRead, EepromWrite, ClockRead, ClockWrite, IdRead, IdWrite, StatusWrite, StatusWriteMore, UnlockSecond, UnlockMore, WatchdogSecond, WatchdogMore, RamSecond, RamMore, EnableMore, DisableMore}
 use Rattle.record.specs.Numbers.{stageValue}
 use Rattle.record.proofs.Stage.{the-type}
-use Rattle.record.proofs.number.stage_value.Statement.{statement}
-use Rattle.record.proofs.number.stage_value.Tie as tie
+use Rattle.numbers.proofs.stage_value.Statement.{statement}
+use Rattle.numbers.proofs.stage_value.Tie as tie
 
 abbrev unnamed : List ℕ
 unnamed = 0 ∷ 1 ∷ 2 ∷ 11 ∷ 13 ∷ 14 ∷ 15 ∷ 16 ∷ 17 ∷ 18 ∷ 19 ∷ []

@@ -1,8 +1,8 @@
--- `record::number::stage_kind` meets its contract.
+-- `numbers::stage_kind` meets its contract.
 -- Assumes nothing.
 use borrow.Author.Needs.{needs}
-use Rattle.record.proofs.number.stage_kind.Statement.{statement}
-use Rattle.record.proofs.number.stage_kind.Tie as tie
+use Rattle.numbers.proofs.stage_kind.Statement.{statement}
+use Rattle.numbers.proofs.stage_kind.Tie as tie
 
 pub stage-kind-spec : {M : Type 1} → statement M
 stage-kind-spec =

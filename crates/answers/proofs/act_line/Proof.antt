@@ -1,4 +1,4 @@
--- `tape::answer::act_line` meets its contract: before a part, and the act's outcome on the part's own bytes.
+-- `answers::act_line` meets its contract: before a part, and the act's outcome on the part's own bytes.
 -- Assumes nothing.
 use native.Mathlib.Omega.{arith}
 use mathlib.Core.Path.{_≡_, sym, ap, _∙_}
@@ -11,12 +11,12 @@ use Rattle.device.specs.World.{world}
 use Rattle.acts.specs.Act.{Outcome, performed}
 use Rattle.base.proofs.Tests.{yes, no}
 use Rattle.text.specs.Text.{buffer}
-use Rattle.tape.specs.Answer.{outcomeAnswer, shownIn}
+use Rattle.answers.specs.Answer.{outcomeAnswer, shownIn}
 use Rattle.record.proofs.PartLaws.{size-most}
-use Rattle.tape.proofs.AnswerLaws.{outcome-shown}
+use Rattle.answers.proofs.AnswerLaws.{outcome-shown}
 use borrow.Author.Needs.{needs}
-use Rattle.tape.proofs.answer.act_line.Statement.{statement}
-use Rattle.tape.proofs.answer.act_line.Tie as tie
+use Rattle.answers.proofs.act_line.Statement.{statement}
+use Rattle.answers.proofs.act_line.Tie as tie
 
 returns : tie.Need-returns
 returns c =

@@ -1,10 +1,10 @@
--- `tape::answer::refused_line` meets its contract.
+-- `answers::refused_line` meets its contract.
 -- Assumes nothing.
 use Rattle.text.specs.Text.{buffer}
-use Rattle.tape.proofs.AnswerLaws.{refused-shown}
+use Rattle.answers.proofs.AnswerLaws.{refused-shown}
 use borrow.Author.Needs.{needs}
-use Rattle.tape.proofs.answer.refused_line.Statement.{statement}
-use Rattle.tape.proofs.answer.refused_line.Tie as tie
+use Rattle.answers.proofs.refused_line.Statement.{statement}
+use Rattle.answers.proofs.refused_line.Tie as tie
 
 returns : tie.Need-returns
 returns c =
