@@ -1,4 +1,4 @@
-//! BCD fields and their succession (01 "Calendar and ticks"). Knows no chip: the time is the
+//! BCD fields and their succession (01 Calendar and ticks). Knows no chip: the time is the
 //! eight bytes 00h to 07h of 000's register map, control bits beside the fields stay.
 
 /// The last field that a step reached: every field up to it took a value.
@@ -24,8 +24,8 @@ pub fn to_bcd(n: u8) -> u8 {
     (n / 10) << 4 | n % 10
 }
 
-/// "A field with a valid value below its last takes the next; with its last or a value that is
-/// not valid it takes its first and carries (bench)." Gives the value and whether it carries.
+/// 01 Calendar (bench): the value after a valid one, short of the last; after the last, and after
+/// one that is not valid, the first, with a carry. Gives the value and whether it carries.
 pub fn next_field(value: u8, first: u8, last: u8) -> (u8, bool) {
     match from_bcd(value) {
         Some(n) if first <= n && n < last => (to_bcd(n + 1), false),
@@ -53,12 +53,12 @@ pub fn next_hours(byte: u8) -> (u8, bool) {
     (kept | pm | to_bcd(shown), next == 0)
 }
 
-/// "Leap: valid year divisible by 4."
+/// 01 Calendar: a year is a leap year if it is valid and 4 divides it.
 pub fn leap(year: u8) -> bool {
     matches!(from_bcd(year), Some(n) if n % 4 == 0)
 }
 
-/// The last date of a month (bits 4:0 of 06h), "31 if the month is not valid".
+/// 01 Calendar: the last date of a month (bits 4:0 of 06h); one that is not valid has 31.
 pub fn month_length(month: u8, year: u8) -> u8 {
     match from_bcd(month) {
         Some(2) if leap(year) => 29,
@@ -68,8 +68,9 @@ pub fn month_length(month: u8, year: u8) -> u8 {
     }
 }
 
-/// One step of the hundredths, with every carry it causes, in 01's order: "hundredths, seconds,
-/// minutes, hours, then day and date together, month, year; the day's carry goes nowhere".
+/// One step of the hundredths, with every carry it causes. 01 Calendar: seconds, minutes and hours
+/// pass it on; the hours' carry moves day and date, the date's the month, the month's the year. A
+/// carry of the day is lost.
 pub fn step(time: &mut [u8; 8]) -> Reach {
     // Takes the bits of `mask` at `place` on; the others stay.
     fn advance(time: &mut [u8; 8], place: usize, mask: u8, first: u8, last: u8) -> bool {

@@ -31,7 +31,7 @@ pub const ALARM0_DAY: usize = 0x0F;
 pub const ALARM1_HOURS: usize = 0x15;
 pub const ALARM1_DAY: usize = 0x16;
 
-/// 01 "Frames": "the mask of writable bits, 00h to 1Fh".
+/// 01 Frames: the bits that WRITE can set in each register, from 00h on.
 pub const WRITABLE: [u8; 32] = [
     0xFF, 0xFF, 0x7F, 0xFF, 0x1F, 0x3F, 0x1F, 0xFF, //
     0xFF, 0xFF, 0xFF, 0xFF, 0x7F, 0x7F, 0x3F, 0xFF, //
@@ -74,7 +74,7 @@ impl Protection {
         self as u8
     }
 
-    /// "BP 01 protects the upper quarter, 10 the upper half, 11 all."
+    /// 01 Frames: the first address that is guarded: none, the last quarter, the last half, all.
     pub fn first_protected(self, length: usize) -> usize {
         match self {
             Protection::Nothing => length,
@@ -147,7 +147,7 @@ pub struct Device {
     pub pulse: u64,
 }
 
-/// 01 "Fresh": "registers 0 but day, date and month 01h".
+/// 01 Acts: a fresh chip has 01h in day, date and month, and 0 in the other registers.
 pub const FRESH_REGISTERS: [u8; 32] = {
     let mut registers = [0; 32];
     registers[0x04] = 0x01;
@@ -156,7 +156,7 @@ pub const FRESH_REGISTERS: [u8; 32] = {
     registers
 };
 
-/// The four parts (01 "The tape"): 1 W 1K, 2 W 2K, 3 B 1K, 4 B 2K.
+/// 01 Tape: parts 1 and 2 are W, 3 and 4 are B; the odd ones have 1 Kbit, the even ones 2.
 pub fn part_exists(part: u64) -> bool {
     (1..=4).contains(&part)
 }
@@ -226,7 +226,7 @@ impl Device {
         PERIODS[usize::from(self.registers[WATCHDOG] & 7)]
     }
 
-    /// Bit 0 WIP, 1 WEL, 2 BP0, 3 BP1, the rest 0.
+    /// 01 Frames: WIP in bit 0, WEL in bit 1, BP1:BP0 in bits 3:2; bits 7:4 are 0.
     pub fn status(&self) -> u8 {
         u8::from(self.wip()) | u8::from(self.wel) << 1 | self.protection.bits() << 2
     }
@@ -238,12 +238,12 @@ impl Device {
         })
     }
 
-    /// The level of IRQ: low while an active alarm's flag is set and its bit 7 clear.
+    /// 01 Calendar: the level of IRQ, low if an alarm holds it by a clear bit 7.
     pub fn irq(&self) -> bool {
         !self.alarm_holds(false)
     }
 
-    /// The level of WDO: low while the pulse runs or an alarm holds it.
+    /// 01 Calendar: the level of WDO, low if a pulse runs or an alarm holds it by a set bit 7.
     pub fn wdo(&self) -> bool {
         self.pulse == 0 && !self.alarm_holds(true)
     }
@@ -256,7 +256,7 @@ impl Device {
 // ---------------------------------------------------------------------------------------------
 // Refusals
 
-/// "If set, only SRREAD, READ, WRITE, CLRWDT, CLRRAM are heard."
+/// 01 Frames: the five codes that get through while a write cycle runs.
 pub fn heard_under_wip(code: u8) -> bool {
     matches!(code, SRREAD | READ | WRITE | CLRWDT | CLRRAM)
 }
@@ -293,7 +293,7 @@ pub fn number_too_large(act: Act, number: u64) -> bool {
     number > limit
 }
 
-/// The refusal table: "3 for the part, 4, 6, 3, 5, then 1 or 2". 0 is done.
+/// 01 Acts: the first row of the table that holds, in its order (7 is the tape's). 0 is done.
 pub fn refusal(part: u64, act: Act, number: u64, device: &Device, eeprom: &[u8], id: &[u8]) -> u64 {
     if !part_exists(part) {
         return 3;
@@ -367,7 +367,8 @@ fn after_register_write(part: u64, device: &mut Device, address: usize) {
     }
 }
 
-/// "Clock block 1Fh to 00h, SRAM 5Fh to 20h"; from 60h up "the pointer stays (bench)".
+/// 01 Frames, 002 6.1: registers and SRAM each roll over to their own start; at 60h and above the
+/// pointer does not move (bench).
 pub fn next_clock_address(address: u8) -> u8 {
     match address {
         0x1F => 0x00,
@@ -410,13 +411,13 @@ fn byte(part: u64, device: &mut Device, byte: u8, eeprom: &[u8], id: &[u8]) -> O
 fn second_byte(part: u64, device: &mut Device, code: u8, byte: u8) -> Option<u8> {
     match code {
         EEREAD | EEWRITE => {
-            // "a 1 Kbit part drops address bit 7"
+            // 01 Frames: with 1 Kbit, bit 7 of the address does not count.
             device.eeprom_pointer = u64::from(byte) % eeprom_length(part) as u64;
             device.offset = u64::from(byte % 8);
             device.loaded = [None; 8];
         }
         IDREAD | IDWRITE => {
-            // "ID address is taken modulo 16"
+            // 01 Frames: of an ID address the low four bits count.
             device.id_pointer = u64::from(byte % 16);
             device.offset = u64::from(byte % 8);
             device.loaded = [None; 8];
@@ -459,7 +460,7 @@ fn data_byte(
             None
         }
         EEWRITE | IDWRITE => {
-            // "Later bytes roll inside the page and replace earlier ones."
+            // 01 Frames: offset 0 comes after offset 7, and the newest byte of an offset stands.
             device.loaded[device.offset as usize] = Some(byte);
             device.offset = (device.offset + 1) % 8;
             None
@@ -499,7 +500,7 @@ fn end_page_write(part: u64, device: &mut Device, code: u8, whole: bool) {
     end_write(device, device.wel && whole && free, target);
 }
 
-/// A write frame with at least one data byte: "carried into its cycle", or else "WEL clears".
+/// 01 Frames: a write frame that had data starts its cycle (is 'carried') or loses WEL.
 fn end_write(device: &mut Device, carried: bool, target: Target) {
     if carried {
         device.target = target;
@@ -509,7 +510,7 @@ fn end_write(device: &mut Device, carried: bool, target: Target) {
     }
 }
 
-/// 01 "Lock (bench)". `two_whole`: two bytes came and no bit is left over.
+/// 01 Frames, the lock (bench). `two_whole`: two bytes came and no bit is left over.
 fn lock_after_end(lock: Lock, code: u8, two_whole: bool, second: u8) -> Lock {
     match code {
         UNLOCK => match (two_whole, second, lock) {
@@ -547,10 +548,10 @@ fn store(device: &mut Device, mask: u8, eeprom: &mut [u8], id: &mut [u8]) -> u64
     stored
 }
 
-/// One tick: "write cycle, oscillator, watchdog, calendar, alarms".
+/// One tick, its parts in the order of 01 Calendar.
 pub fn tick(part: u64, device: &mut Device, eeprom: &mut [u8], id: &mut [u8]) {
     if !device.power && !device.vbaten() {
-        return; // 01 "Power cut": nothing counts
+        return; // 01 Power: without power and battery no count moves
     }
     if device.countdown > 0 {
         device.countdown -= 1;
@@ -568,7 +569,8 @@ pub fn tick(part: u64, device: &mut Device, eeprom: &mut [u8], id: &mut [u8]) {
     }
 }
 
-/// Gives whether this tick counts: "OSCON sets at the 32nd such tick; only later ticks count".
+/// Gives whether this tick counts. 01 Calendar: OSCON comes with the 32nd tick at which the
+/// oscillator is to run, and the ticks after that one count.
 fn tick_oscillator(part: u64, device: &mut Device) -> bool {
     let counted = device.oscon();
     let asked = is_b_part(part) || device.st();
@@ -595,8 +597,8 @@ fn tick_watchdog(device: &mut Device, counted: bool) {
     }
 }
 
-/// "Hundredths advance at each counted tick where floor(100s/32768) grows as s goes from the
-/// divider to the divider plus one; 32,768 is then 0."
+/// 01 Calendar: the divider goes up by one, and round at 32,768; the hundredths step where a
+/// hundred times the divider, over 32,768 and rounded down, becomes greater by that.
 fn tick_calendar(device: &mut Device) -> Option<Reach> {
     let before = device.divider;
     let after = before + 1;
@@ -644,8 +646,8 @@ fn compared(alarm1: bool, code: u8) -> &'static [Field] {
     }
 }
 
-/// "An alarm active in 08h (bit 4, bit 5) is tested at the tick that advances the finest field
-/// it compares (bench) [..] a match sets bit 3 of 0Fh or 16h."
+/// 01 Calendar (bench): bits 4 and 5 of 08h make the alarms active. An active one is looked at
+/// when the finest of its fields takes a value; where all agree its flag, bit 3, is set.
 fn tick_alarms(device: &mut Device, reach: Reach) {
     let alarms = [(false, 4, ALARM0_DAY, ALARM0_BASE), (true, 5, ALARM1_DAY, ALARM1_BASE)];
     for (alarm1, active, day, base) in alarms {
@@ -663,8 +665,7 @@ fn tick_alarms(device: &mut Device, reach: Reach) {
     }
 }
 
-/// "A wait stops after the first tick that changed IRQ, WDO or WIP, or after n; it reports the
-/// ticks used."
+/// 01 Calendar: ticks until IRQ, WDO or WIP is another than before, n at most. Gives how many.
 fn wait(part: u64, device: &mut Device, n: u64, eeprom: &mut [u8], id: &mut [u8]) -> u64 {
     let lines = device.lines();
     for used in 1..=n {
@@ -679,7 +680,7 @@ fn wait(part: u64, device: &mut Device, n: u64, eeprom: &mut [u8], id: &mut [u8]
 // ---------------------------------------------------------------------------------------------
 // Power
 
-/// 01 "Power cut"; gives how many bytes were stored.
+/// 01 Power: a cut. Gives how many bytes were stored.
 fn cut(device: &mut Device, mask: u8, eeprom: &mut [u8], id: &mut [u8]) -> u64 {
     let stored = if device.wip() { store(device, mask, eeprom, id) } else { 0 };
     device.power = false;
@@ -711,7 +712,7 @@ pub struct Answer {
     pub count: u64,
 }
 
-/// One act. "Numbers 1 to 7 answer no reply and change nothing."
+/// One act. 01 Acts: one that is refused has no reply and leaves everything as it was.
 pub fn perform(
     part: u64,
     act: Act,

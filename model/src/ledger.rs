@@ -1,5 +1,5 @@
-//! The ledger of 01 "The ledger": which bytes the acts of a run should have written. It is fed
-//! each act with its number and a wait's ticks used, and knows nothing of the chip's record.
+//! The ledger (01 Ledger): which bytes the acts of a run should have written. It is told the acts,
+//! their numbers and how many ticks each wait used, and knows nothing of the chip's record.
 
 use crate::{Act, ERASED};
 
@@ -65,7 +65,7 @@ const NO_FRAME_BYTE: Frame =
     Frame { heard: false, code: 0, second: 0, bytes: 0, page: 0, next: 0, loaded: [None; 8] };
 
 impl Ledger {
-    /// "It starts fresh, with no cycle or entry." Parts 1 and 3 have the small EEPROM.
+    /// 01 Ledger: as a fresh chip, no cycle, no entries. Parts 1 and 3 have the small EEPROM.
     pub fn new(part: u64) -> Ledger {
         Ledger {
             small: part == 1 || part == 3,
@@ -79,7 +79,7 @@ impl Ledger {
         }
     }
 
-    /// "A byte is that of the last entry for its place, else FFh."
+    /// 01 Ledger: what the newest entry for the place says; FFh if there is none.
     pub fn byte_at(&self, memory: Memory, place: usize) -> u8 {
         let written = |e: &&Entry| e.memory == memory && e.place == place;
         self.entries.iter().rev().find(written).map_or(ERASED, |e| e.byte)
@@ -167,9 +167,9 @@ impl Ledger {
         };
     }
 
-    /// "A write is carried into its cycle when WEL is set, at least one data byte came (SRWRITE:
-    /// exactly one), no bit is left over, the page is not protected (EEWRITE) or the lock is
-    /// open (IDWRITE)."
+    /// 01 Frames: what the cycle of a write will write, if it starts one. It wants WEL, a data
+    /// byte (of SRWRITE one only) and no bits over; EEWRITE an unprotected page too, IDWRITE an
+    /// open lock.
     fn carried(&self, frame: &Frame, leftover: u64) -> Option<Kind> {
         if !self.wel || leftover != 0 {
             return None;

@@ -1,5 +1,6 @@
-//! A second, independent copy of the MCP795XX, tick by tick, from the papers alone
-//! ("01" is the outline with its exact rules, "000" and "002" are the sheets).
+//! A second, independent copy of the MCP795XX, tick by tick, from the papers alone: 01 is the
+//! outline with its exact rules, 000 and 002 are the sheets. A comment names the place of a rule
+//! by its paper and section (`01 Frames`); the words that follow are our own.
 
 pub mod calendar;
 pub mod chip;
@@ -18,5 +19,5 @@ pub enum Act {
     Up,
 }
 
-/// 01 "Fresh": both memories are filled with FFh.
+/// 01 Acts: what EEPROM and ID of a fresh chip hold everywhere.
 pub const ERASED: u8 = 0xFF;

@@ -1,4 +1,4 @@
-//! The tape (01 "The tape"): bytes to acts, answers to bytes.
+//! The tape (01 Tape): bytes to acts, answers to bytes.
 
 use crate::chip::{self, Answer, Device};
 use crate::{Act, ERASED};
@@ -34,7 +34,7 @@ pub fn parse(line: &[u8]) -> Option<(Op, u64)> {
     Some((op, number(digits)?))
 }
 
-/// "N of 1 to 8 digits, no needless zero."
+/// 01 Tape: at most eight digits and at least one; a 0 in front stands alone.
 fn number(digits: &[u8]) -> Option<u64> {
     let needless_zero = digits.len() > 1 && digits[0] == b'0';
     if digits.is_empty() || digits.len() > MOST_DIGITS || needless_zero {
@@ -79,7 +79,7 @@ impl Tape {
         }
     }
 
-    /// "A last line without a newline is a line too."
+    /// A last line that lacks its newline is answered too; 01 Tape does not ask for one.
     pub fn finish(&mut self, out: &mut Vec<u8>) {
         if self.in_line {
             self.end_line(out);
@@ -130,7 +130,7 @@ impl Tape {
     }
 }
 
-/// "V decimal or z: the reply, a wait's ticks or a cut's count."
+/// 01 Tape: a wait shows its ticks, a cut its count, any other act its reply; none is z.
 fn shown(act: Act, answer: Answer) -> Option<u64> {
     match act {
         _ if answer.number != 0 => None,

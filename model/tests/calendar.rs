@@ -1,11 +1,10 @@
-//! 01 "Calendar and ticks", the calendar alone.
+//! 01 Calendar and ticks, the calendar alone.
 
 use model::calendar::*;
 
 #[test]
 fn plain_fields() {
-    // "A field with a valid value below its last takes the next; with its last or a value that
-    // is not valid it takes its first and carries (bench)."
+    // 01 Calendar (bench): one on, or back to the first with a carry; every byte has its case.
     for (first, last) in [(0, 99), (0, 59), (0, 23), (1, 7), (1, 31), (1, 28), (1, 12)] {
         for value in 0..=255 {
             let (tens, ones) = (value / 16, value % 16);
@@ -56,7 +55,7 @@ fn hours_in_24_hour_form() {
 
 #[test]
 fn hours_in_12_hour_form() {
-    // "Bit 6 of 03h picks 12-hour [..] bit 5 set is PM; 12 AM is its first hour."
+    // 01 Calendar: 03h with bit 6 set, and in the afternoon bit 5; the day begins with 12 AM.
     let day = [
         0x52, 0x41, 0x42, 0x43, 0x44, 0x45, 0x46, 0x47, 0x48, 0x49, 0x50, 0x51, 0x72, 0x61, 0x62,
         0x63, 0x64, 0x65, 0x66, 0x67, 0x68, 0x69, 0x70, 0x71, 0x52,
@@ -81,7 +80,7 @@ fn month_lengths() {
         assert_eq!(month_length(bcd, 0x01), length);
         assert_eq!(month_length(bcd, 0x04), if month == 2 { 29 } else { length });
     }
-    // "31 if the month is not valid"
+    // 01 Calendar: what is no month has 31.
     for month in [0x00, 0x0A, 0x0F, 0x13, 0x19, 0x1F] {
         assert_eq!(month_length(month, 0x00), 31);
     }
@@ -89,7 +88,7 @@ fn month_lengths() {
 
 #[test]
 fn leap_years() {
-    // "Leap: valid year divisible by 4."
+    // 01 Calendar: by the year's value, not its byte.
     for year in 0..=255 {
         let (tens, ones) = (year / 16, year % 16);
         let expected = tens < 10 && ones < 10 && (10 * tens + ones) % 4 == 0;
@@ -136,8 +135,8 @@ fn how_far_a_carry_goes() {
 }
 
 #[test]
-fn the_days_carry_goes_nowhere() {
-    // "day and date together [..] the day's carry goes nowhere"
+fn the_end_of_a_week_moves_no_other_field() {
+    // 01 Calendar: day and date step at the same time, each for itself.
     assert_eq!(
         stepped([0x99, 0x59, 0x59, 0x23, 7, 0x10, 1, 0]).0,
         [0x00, 0x00, 0x00, 0x00, 1, 0x11, 1, 0]
@@ -149,8 +148,8 @@ fn the_days_carry_goes_nowhere() {
 }
 
 #[test]
-fn control_bits_stay() {
-    // "Control bits beside a field stay": ST, CALSGN and 12/24, VBAT and VBATEN.
+fn a_step_leaves_the_control_bits() {
+    // 01 Calendar: ST, CALSGN and 12/24, VBAT and VBATEN.
     assert_eq!(
         stepped([0x99, 0xD9, 0x59, 0xF1, 0x1F, 0x31, 0x12, 0x99]).0,
         [0x00, 0x80, 0x00, 0xD2, 0x19, 0x01, 0x01, 0x00]

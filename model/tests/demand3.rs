@@ -73,7 +73,7 @@ fn some_hundred_thousand_acts() {
 
 #[test]
 fn the_whole_case_by_the_ledger() {
-    // "one that does nothing (case EEPROM 00h is 52)"
+    // 01 Promise: the byte that a chip without any effect would not have.
     let mut ledger = Ledger::new(2);
     for (act, number, ticks) in [
         (Act::Select, 0, 0),

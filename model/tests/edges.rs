@@ -1,4 +1,4 @@
-//! 01 "Edges to show": the twelve marked P, and those that are run.
+//! 01 Edges: the twelve marked P, and those that are run.
 
 mod common;
 use common::*;
@@ -18,7 +18,7 @@ fn one_hundredth(time: [u8; 8]) -> [u8; 8] {
 // Seconds carry ST (bit 7 of 01h), which stays.
 #[test]
 fn new_year_of_the_century() {
-    // "31 Dec 99 23:59:59.99 day 7 to 01 Jan 00 day 1"
+    // From the last hundredth of 31 Dec 99 to 1 Jan 00; the week ends too.
     assert_eq!(
         one_hundredth([0x99, 0xD9, 0x59, 0x23, 0x07, 0x31, 0x12, 0x99]),
         [0x00, 0x80, 0x00, 0x00, 0x01, 0x01, 0x01, 0x00]
@@ -27,7 +27,7 @@ fn new_year_of_the_century() {
 
 #[test]
 fn february_of_a_leap_year() {
-    // "28 Feb 00 to 29"
+    // 00 has a 29 Feb.
     assert_eq!(
         one_hundredth([0x99, 0xD9, 0x59, 0x23, 0x01, 0x28, 0x02, 0x00]),
         [0x00, 0x80, 0x00, 0x00, 0x02, 0x29, 0x02, 0x00]
@@ -36,7 +36,7 @@ fn february_of_a_leap_year() {
 
 #[test]
 fn february_of_a_common_year() {
-    // "28 Feb 01 to 1 Mar"
+    // 01 has none.
     assert_eq!(
         one_hundredth([0x99, 0xD9, 0x59, 0x23, 0x03, 0x28, 0x02, 0x01]),
         [0x00, 0x80, 0x00, 0x00, 0x04, 0x01, 0x03, 0x01]
@@ -45,7 +45,7 @@ fn february_of_a_common_year() {
 
 #[test]
 fn twelve_hour_forms() {
-    // "hours 71h to 52h with carry; 51h to 72h; 72h to 61h"
+    // 11 PM to midnight, which carries; 11 AM to noon; noon to 1 PM.
     assert_eq!(next_hours(0x71), (0x52, true));
     assert_eq!(next_hours(0x51), (0x72, false));
     assert_eq!(next_hours(0x72), (0x61, false));
@@ -61,7 +61,7 @@ fn twelve_hour_forms() {
 
 #[test]
 fn seconds_that_are_not_valid() {
-    // "seconds 5Ah to 00h with carry"
+    // 5Ah are no seconds: back to 00h, and the minutes step.
     assert_eq!(next_field(0x5A, 0, 59), (0x00, true));
     assert_eq!(
         one_hundredth([0x99, 0xDA, 0x08, 0x00, 0x01, 0x01, 0x01, 0x00]),
@@ -71,7 +71,7 @@ fn seconds_that_are_not_valid() {
 
 #[test]
 fn first_hundredth() {
-    // "divider 0, 327 counted ticks hundredths 00, 328 give 01"
+    // 32,768 / 100 is between 327 and 328.
     let mut rig = Rig::new(W2K);
     rig.start_at([0, 0, 0, 0, 1, 1, 1, 0]);
     assert_eq!(rig.wait(327), 327);
@@ -82,7 +82,7 @@ fn first_hundredth() {
 
 #[test]
 fn clock_block_rolls() {
-    // "1Fh to 00h": the byte after 1Fh is the hundredths.
+    // The byte after 1Fh is the hundredths.
     let mut rig = Rig::new(W2K);
     rig.write(0x1F, &[0xAB, 0x42]);
     assert_eq!(rig.device.registers[0x00], 0x42);
@@ -91,7 +91,7 @@ fn clock_block_rolls() {
 
 #[test]
 fn sram_rolls() {
-    // "5Fh to 20h"
+    // The byte after the last of the SRAM is its first.
     let mut rig = Rig::new(W2K);
     rig.write(0x5F, &[0x11, 0x22]);
     assert_eq!((rig.device.sram[63], rig.device.sram[0]), (0x11, 0x22));
@@ -100,7 +100,7 @@ fn sram_rolls() {
 
 #[test]
 fn page_rolls() {
-    // "page 07h to 00h"
+    // The byte after 07h is 00h.
     let mut rig = Rig::new(W2K);
     assert!(rig.eeprom_write(0x07, &[0x12, 0x34]));
     assert_eq!(rig.wait(164), 164);
@@ -109,7 +109,7 @@ fn page_rolls() {
 
 #[test]
 fn quarter_of_2k() {
-    // "2K with BP 01, BFh free and C0h protected"
+    // Three quarters of 256 bytes end with BFh.
     let mut rig = Rig::new(W2K);
     rig.protect(0b01);
     assert!(!rig.eeprom_write(0xC0, &[1]));
@@ -120,7 +120,7 @@ fn quarter_of_2k() {
 
 #[test]
 fn quarter_of_1k() {
-    // "Run: 1K 5Fh and 60h"
+    // Three quarters of 128 bytes end with 5Fh.
     let mut rig = Rig::new(B1K);
     rig.protect(0b01);
     assert!(!rig.eeprom_write(0x60, &[1]));
@@ -131,7 +131,7 @@ fn quarter_of_1k() {
 
 #[test]
 fn last_tick_of_a_cycle() {
-    // "163 and 164 ticks"
+    // After 163 ticks it still runs.
     let mut rig = Rig::new(W1K);
     rig.eeprom_write(0x10, &[0x5A]);
     assert_eq!(rig.wait(163), 163);
@@ -142,7 +142,7 @@ fn last_tick_of_a_cycle() {
 
 #[test]
 fn shortest_period() {
-    // "period 32 at 31 and 32"
+    // After 31 ticks it has not timed out.
     let mut rig = Rig::new(B2K);
     assert_eq!(rig.wait(32), 32);
     rig.write(0x0A, &[0x80]);
@@ -154,7 +154,7 @@ fn shortest_period() {
 
 #[test]
 fn seven_leftover_bits() {
-    // "seven leftover bits": accepted, and nothing is written; eight are number 3.
+    // Seven are accepted, and nothing is written; eight are number 3.
     let mut rig = Rig::new(W2K);
     rig.enable();
     rig.frame_with(&[0x02, 0x00, 0x34], 7);
@@ -166,7 +166,7 @@ fn seven_leftover_bits() {
 
 #[test]
 fn wait_of_nothing() {
-    // "wait 0"
+    // No tick, no change, also in a cycle.
     let mut rig = Rig::new(W2K);
     rig.eeprom_write(0x00, &[1]);
     let before = rig.clone();

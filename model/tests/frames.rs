@@ -1,4 +1,4 @@
-//! 01 "Frames", with 000's section 3 and 002's section 6.1.
+//! 01 Frames, with 000's section 3 and 002's section 6.1.
 
 mod common;
 use common::*;
@@ -9,8 +9,8 @@ const ALL_CODES: [u8; 13] =
 
 #[test]
 fn which_bytes_get_a_reply() {
-    // "Instruction and address bytes get no reply. Reads then answer a byte per byte. SRREAD
-    // answers STATUS from its second byte". "Another code: ignored, no replies."
+    // 01 Frames: SO is off for a code and for an address. After these EEREAD, READ and IDREAD
+    // drive a byte for each one that comes, SRREAD right after its code. Other codes never do.
     for code in 0..=255 {
         let mut rig = Rig::new(W2K);
         let driven: Vec<bool> =
@@ -40,12 +40,12 @@ fn unknown_codes_change_nothing() {
 
 #[test]
 fn status_bits() {
-    // "bit 0 WIP, 1 WEL, 2 BP0, 3 BP1, the rest 0"
+    // 01 Frames: from bit 0 up WIP, WEL, BP0 and BP1, then zeros.
     let mut rig = Rig::new(W2K);
     assert_eq!(rig.status(), 0b0000);
     rig.enable();
     assert_eq!(rig.status(), 0b0010);
-    // "SRWRITE takes bits 2 and 3 only."
+    // 01 Frames: SRWRITE looks at bits 3 and 2 of its byte.
     rig.frame(&[0x01, 0b1111_0111]);
     assert_eq!(rig.status(), 0b0011);
     rig.wait(164);
@@ -75,7 +75,7 @@ fn status_of_the_moment() {
 
 #[test]
 fn eeprom_pointer_rolls() {
-    // "EEPROM pointer rolls from the top (7Fh or FFh) to 00h"
+    // 01 Frames: after the highest address, FFh or 7Fh, a read goes on at 00h.
     let mut rig = Rig::new(W2K);
     (rig.eeprom[0xFF], rig.eeprom[0x00], rig.eeprom[0x7F]) = (1, 2, 3);
     assert_eq!(rig.frame(&[0x03, 0xFF, 0, 0])[2..], [Some(1), Some(2)]);
@@ -83,7 +83,7 @@ fn eeprom_pointer_rolls() {
     let mut rig = Rig::new(W1K);
     (rig.eeprom[0x7F], rig.eeprom[0x00], rig.eeprom[0x01]) = (1, 2, 3);
     assert_eq!(rig.frame(&[0x03, 0x7F, 0, 0])[2..], [Some(1), Some(2)]);
-    // "a 1 Kbit part drops address bit 7"
+    // 01 Frames: with 1 Kbit, bit 7 of the address does not count.
     assert_eq!(rig.frame(&[0x03, 0xFF, 0, 0])[2..], [Some(1), Some(2)]);
     assert_eq!(rig.frame(&[0x03, 0x81, 0])[2..], [Some(3)]);
     rig.eeprom_write(0x90, &[7]);
@@ -93,7 +93,7 @@ fn eeprom_pointer_rolls() {
 
 #[test]
 fn id_pointer_rolls() {
-    // "ID address is taken modulo 16 and rolls 0Fh to 00h."
+    // 01 Frames: the low four bits of an ID address count; 00h comes after 0Fh.
     let mut rig = Rig::new(W2K);
     (rig.id[15], rig.id[0], rig.id[3]) = (1, 2, 3);
     assert_eq!(rig.frame(&[0x33, 0x0F, 0, 0])[2..], [Some(1), Some(2)]);
@@ -102,7 +102,7 @@ fn id_pointer_rolls() {
 
 #[test]
 fn from_60h_up() {
-    // "From 60h up READ answers 0, WRITE is dropped, the pointer stays (bench)."
+    // 01 Frames (bench): past the SRAM nothing can be written or read, and the pointer is stuck.
     for address in 0x60..=0xFF {
         let mut rig = Rig::new(W2K);
         let before = rig.device.clone();
@@ -120,8 +120,7 @@ fn from_60h_up() {
 
 #[test]
 fn writable_masks() {
-    // "under the mask of writable bits, 00h to 1Fh: FF FF 7F FF 1F 3F 1F FF, FF FF FF FF 7F 7F 3F
-    // FF, 3F 1F FF 7F 7F 3F FF 3F, then eight 00"
+    // 01 Frames: the bits that a write can set, register by register.
     let masks = [
         0xFF, 0xFF, 0x7F, 0xFF, 0x1F, 0x3F, 0x1F, 0xFF, 0xFF, 0xFF, 0xFF, 0xFF, 0x7F, 0x7F, 0x3F,
         0xFF, 0x3F, 0x1F, 0xFF, 0x7F, 0x7F, 0x3F, 0xFF, 0x3F, 0, 0, 0, 0, 0, 0, 0, 0,
@@ -155,20 +154,20 @@ fn sram_keeps_every_bit() {
 #[test]
 fn bits_made_when_read() {
     let mut rig = Rig::new(B2K);
-    // "Bit 6 of 0Eh and 15h reads as bit 6 of 03h"
+    // 01 Frames: the alarms' hours show the clock's 12/24 bit.
     rig.write(0x0E, &[0x7F]);
     rig.write(0x15, &[0x40]);
     assert_eq!((rig.read(0x0E), rig.read(0x15)), (0x3F, 0x00));
     rig.write(0x03, &[0x52]);
     assert_eq!((rig.read(0x0E), rig.read(0x15)), (0x7F, 0x40));
     assert_eq!((rig.device.registers[0x0E], rig.device.registers[0x15]), (0x3F, 0x00));
-    // "bit 5 of 04h is OSCON, set while the start-up count is 32"
+    // 01 Frames: OSCON shows in bit 5 of 04h, from the 32nd tick of the start on.
     rig.write(0x04, &[0x3A]);
     rig.wait(31);
     assert_eq!(rig.read(0x04), 0x1A);
     rig.wait(1);
     assert_eq!((rig.read(0x04), rig.device.registers[0x04]), (0x3A, 0x1A));
-    // "bit 5 of 06h is the leap bit": "valid year divisible by 4"
+    // 01 Frames, Calendar: bit 5 of 06h tells a leap year, a valid one that 4 divides.
     for (year, leap) in [(0x00, 0x20), (0x01, 0), (0x04, 0x20), (0x96, 0x20), (0x0C, 0), (0xA0, 0)]
     {
         rig.write(0x06, &[0x32, year]);
@@ -177,8 +176,8 @@ fn bits_made_when_read() {
 }
 
 #[test]
-fn enable_and_disable_act_after_exactly_8_bits() {
-    // "EEWREN and EEWRDI act at an end after exactly 8 bits."
+fn enable_and_disable_have_eight_bits() {
+    // 01 Frames: a frame of eight bits works when it ends; any longer one does nothing.
     for leftover in 1..=7 {
         let mut rig = Rig::new(W2K);
         rig.frame_with(&[0x06], leftover);
@@ -199,9 +198,8 @@ fn enable_and_disable_act_after_exactly_8_bits() {
 }
 
 #[test]
-fn clears_act_after_one_or_two_whole_bytes() {
-    // "CLRWDT and CLRRAM (20h to 5Fh become 0) act at an end after one or two whole bytes, no
-    // leftover (bench)."
+fn clears_have_one_byte_or_two() {
+    // 01 Frames (bench): a second byte is allowed, a third or a bit of one is not.
     for (bytes, leftover, acts) in
         [(1, 0, true), (2, 0, true), (3, 0, false), (4, 0, false), (1, 1, false), (2, 7, false)]
     {
@@ -221,8 +219,7 @@ fn clears_act_after_one_or_two_whole_bytes() {
 
 #[test]
 fn page_write() {
-    // "pages are 8 bytes, x000 to x111 [..] Later bytes roll inside the page and replace earlier
-    // ones."
+    // 01 Frames: eight bytes from x000 on; the ninth goes where the first one went.
     let mut rig = Rig::new(W2K);
     rig.eeprom_write(0x2D, &[1, 2, 3, 4, 5, 6, 7, 8, 9, 10]);
     rig.wait(164);
@@ -237,20 +234,20 @@ fn page_write() {
 #[test]
 fn a_write_is_carried_when() {
     let base = [0x02, 0x10, 0x01];
-    // "WEL is set"
+    // 01 Frames: not without WEL.
     let mut rig = Rig::new(W2K);
     rig.frame(&base);
     assert_eq!(rig.device.countdown, 0);
-    // "The cycle lasts 164 ticks"
+    // 01 Frames (bench): a cycle of 164 ticks.
     rig.enable();
     rig.frame(&base);
     assert_eq!((rig.device.countdown, rig.device.wel), (164, true));
-    // "at the 164th the bytes change and WEL clears"
+    // Its last tick stores, and takes WEL back.
     rig.wait(163);
     assert_eq!((rig.eeprom[0x10], rig.device.wel), (0xFF, true));
     assert_eq!(rig.wait(1), 1);
     assert_eq!((rig.eeprom[0x10], rig.device.wel), (0x01, false));
-    // "no bit is left over"
+    // 01 Frames: not with bits over.
     for leftover in 1..=7 {
         rig.enable();
         rig.frame_with(&base, leftover);
@@ -260,7 +257,7 @@ fn a_write_is_carried_when() {
 
 #[test]
 fn writes_without_data_keep_wel() {
-    // "at least one data byte came": with none no cycle starts and WEL stays.
+    // 01 Frames: a write wants data; without any no cycle starts and WEL stays.
     let mut rig = Rig::new(W2K);
     rig.unlock();
     rig.enable();
@@ -274,7 +271,7 @@ fn writes_without_data_keep_wel() {
 
 #[test]
 fn status_write_takes_exactly_one_byte() {
-    // "(SRWRITE: exactly one)"
+    // 01 Frames: SRWRITE wants one data byte, neither none nor two.
     let mut rig = Rig::new(W2K);
     rig.enable();
     rig.frame(&[0x01, 0x0C, 0x0C]);
@@ -290,7 +287,7 @@ fn status_write_takes_exactly_one_byte() {
 
 #[test]
 fn protection() {
-    // "BP 01 protects the upper quarter, 10 the upper half, 11 all."
+    // 01 Frames: BP 00 nothing, 01 the last quarter, 10 the last half, 11 everything.
     for (part, bp, free, protected) in [
         (W2K, 0b00, vec![0x00, 0x40, 0x80, 0xC0, 0xFF], vec![]),
         (W2K, 0b01, vec![0x00, 0x7F, 0xBF], vec![0xC0, 0xFF]),
@@ -309,7 +306,7 @@ fn protection() {
         }
         for address in protected {
             assert!(!rig.eeprom_write(address, &[1]), "{bp:02b} {address:02X}h");
-            // "ends with at least one data byte and no cycle starts, WEL clears"
+            // 01 Frames: data, but no cycle: WEL is lost.
             assert!(!rig.device.wel);
         }
     }
@@ -324,9 +321,7 @@ fn protection() {
 
 #[test]
 fn wel_is_reset_by() {
-    // 000, 3.3: "Power-up", "SRWRITE instruction successfully executed", "EEWRITE instruction
-    // successfully executed", "IDWRITE instruction successfully executed", "EEWRDI instruction
-    // successfully executed".
+    // 000 3.3: by power-up, by EEWRDI, and by SRWRITE, EEWRITE and IDWRITE that succeed.
     let mut rig = Rig::new(W2K);
     rig.enable();
     rig.cut(0);
@@ -347,8 +342,7 @@ fn wel_is_reset_by() {
 
 #[test]
 fn heard_under_wip() {
-    // "If set, only SRREAD, READ, WRITE, CLRWDT, CLRRAM are heard; another frame has no reply
-    // and no effect."
+    // 01 Frames: of the 256 codes five get through in a cycle; nothing comes of the others.
     for code in 0..=255 {
         let mut rig = Rig::new(W2K);
         rig.eeprom_write(0, &[0]);
@@ -379,7 +373,7 @@ fn heard_under_wip() {
 
 #[test]
 fn hearing_is_judged_at_the_instruction_byte() {
-    // "WIP is looked at when the instruction byte arrives."
+    // 01 Frames: the WIP of the first byte decides for the whole frame.
     let mut rig = Rig::new(W2K);
     rig.eeprom_write(0, &[0x12]);
     rig.select();
@@ -396,8 +390,7 @@ fn hearing_is_judged_at_the_instruction_byte() {
 
 #[test]
 fn clock_and_sram_during_a_cycle() {
-    // 002, 6: "RTCC and SRAM can be accessed for reads or writes immediately after starting an
-    // EEPROM write cycle."
+    // 002 6.0: the start of an EEPROM write cycle shuts neither registers nor SRAM.
     let mut rig = Rig::new(W2K);
     rig.eeprom_write(0, &[0x12]);
     rig.write(0x20, &[0x99]);
@@ -422,12 +415,12 @@ fn lock_opens_by_55h_then_aah() {
     assert_eq!(lock_after(&[]), Lock::Closed);
     assert_eq!(lock_after(&[FIRST]), Lock::FirstStep);
     assert_eq!(lock_after(&[FIRST, SECOND]), Lock::Open);
-    // "55h always counts as the first step, and a lock that was open is then no longer open"
+    // 01 Frames (bench): 55h begins anew, from an open lock too.
     assert_eq!(lock_after(&[FIRST, FIRST]), Lock::FirstStep);
     assert_eq!(lock_after(&[FIRST, FIRST, SECOND]), Lock::Open);
     assert_eq!(lock_after(&[FIRST, SECOND, FIRST]), Lock::FirstStep);
     assert_eq!(lock_after(&[FIRST, SECOND, FIRST, SECOND]), Lock::Open);
-    // "anything else in UNLOCK closes"
+    // AAh out of turn closes, and so does every other byte.
     assert_eq!(lock_after(&[SECOND]), Lock::Closed);
     assert_eq!(lock_after(&[FIRST, SECOND, SECOND]), Lock::Closed);
     for other in 0..=255 {
@@ -436,21 +429,21 @@ fn lock_opens_by_55h_then_aah() {
             assert_eq!(lock_after(&[FIRST, SECOND, (&[0x14, other], 0)]), Lock::Closed);
         }
     }
-    // "each is two bytes, no leftover"
+    // So does a frame that is not two bytes with nothing over.
     for wrong in [&[0x14][..], &[0x14, 0x55, 0x55], &[0x14, 0xAA, 0xAA], &[0x14, 0x55, 0xAA]] {
         assert_eq!(lock_after(&[FIRST, SECOND, (wrong, 0)]), Lock::Closed);
         assert_eq!(lock_after(&[FIRST, (wrong, 0)]), Lock::Closed);
     }
     assert_eq!(lock_after(&[(&[0x14, 0x55], 1)]), Lock::Closed);
     assert_eq!(lock_after(&[FIRST, (&[0x14, 0xAA], 7)]), Lock::Closed);
-    // "Closing forgets the first step."
+    // A lock that was closed between the steps has to begin anew.
     assert_eq!(lock_after(&[FIRST, (&[0x14, 0x00], 0), SECOND]), Lock::Closed);
 }
 
 #[test]
 fn which_frames_close_the_lock() {
-    // "A heard frame, an unknown code too, with another first byte than UNLOCK, EEWREN or SRREAD
-    // closes it at its end".
+    // 01 Frames (bench): all that are heard, of any code, but EEWREN and SRREAD; UNLOCK has rules
+    // of its own.
     for code in 0..=255 {
         let keeps = matches!(code, 0x06 | 0x05);
         for (frame, leftover) in
@@ -499,7 +492,7 @@ fn id_write() {
     rig.enable();
     rig.frame(&[0x32, 0x00, 0x01]);
     assert_eq!((rig.device.countdown, rig.device.wel), (0, false));
-    // Open: "after its own effect is judged" the frame closes the lock.
+    // Open: the write is judged first, then its frame closes the lock.
     rig.unlock();
     rig.enable();
     rig.frame(&[0x32, 0x1E, 0x01, 0x02, 0x03]);
@@ -526,7 +519,7 @@ fn id_write() {
 
 #[test]
 fn register_writes_that_cause_something() {
-    // "ST cleared on W clears OSCON and the start-up count at once."
+    // 01 Calendar: on a W part the write that clears ST ends the oscillator's run.
     let mut rig = Rig::new(W2K);
     rig.write(0x01, &[0x80]);
     rig.wait(700);
@@ -536,7 +529,7 @@ fn register_writes_that_cause_something() {
     rig.write(0x01, &[0x00]);
     // The divider stays.
     assert_eq!((rig.device.start_up, rig.device.divider, rig.read(0x04)), (0, 668, 0x01));
-    // "On B, bit 7 clear only holds the calendar and divider."
+    // 01 Calendar: on a B part it stops divider and calendar, not the oscillator.
     let mut rig = Rig::new(B2K);
     rig.write(0x01, &[0x80]);
     rig.wait(700);
@@ -547,9 +540,9 @@ fn register_writes_that_cause_something() {
 }
 
 #[test]
-fn inert_bits_are_stored_and_do_nothing() {
-    // "CLKOUT, EXTOSC, trimming, event inputs (their register bits are stored and do nothing),
-    // time-stamps (18h to 1Fh read 0, writes dropped)"
+fn bits_of_what_is_left_out() {
+    // 01 Chip: what the base leaves out has bits that are kept and without effect; there are no
+    // time-stamps, so nothing is kept at 18h and after.
     let run = |inert: bool| {
         let mut rig = Rig::new(W2K);
         rig.write(0x01, &[0x80]);

@@ -1,4 +1,4 @@
-//! 01 "Power cut".
+//! 01 Power cut.
 
 mod common;
 use common::*;
@@ -7,8 +7,7 @@ use model::Act;
 
 #[test]
 fn loaded_offsets_under_the_mask() {
-    // "Loaded offsets with their mask bit set take the new byte, no other changes; the answer is
-    // how many were stored."
+    // 01 Power: what is both loaded and in the mask gets stored, and is counted.
     for mask in 0..=255u8 {
         let mut rig = Rig::new(W2K);
         rig.eeprom_write(0x16, &[1, 2, 3]); // offsets 6, 7, 0 of page 10h
@@ -23,7 +22,7 @@ fn loaded_offsets_under_the_mask() {
         }
         assert_eq!(rig.cut(mask), count);
         assert_eq!(rig.eeprom, expected);
-        // "The cycle stops there and is gone."
+        // It does not go on when power is back.
         rig.up();
         assert_eq!(rig.wait(1_000), 1_000);
         assert_eq!(rig.eeprom, expected);
@@ -42,8 +41,8 @@ fn an_id_cycle() {
 }
 
 #[test]
-fn a_status_cycle_goes_by_bit_0() {
-    // "A STATUS cycle goes by bit 0, count 1 or 0."
+fn a_status_cycle() {
+    // 01 Power: of the mask only bit 0 counts for SRWRITE, and it is what is answered.
     for (mask, count, protection) in
         [(0x01, 1, Protection::Half), (0xFF, 1, Protection::Half), (0xFE, 0, Protection::Nothing)]
     {
@@ -57,7 +56,7 @@ fn a_status_cycle_goes_by_bit_0() {
 
 #[test]
 fn no_cycle() {
-    // "No cycle: 0."
+    // 01 Power: nothing to store.
     let mut rig = Rig::new(W2K);
     assert_eq!(rig.cut(0xFF), 0);
     // A write that is loaded but not ended is dropped with its frame.
@@ -79,8 +78,7 @@ fn no_cycle() {
 
 #[test]
 fn what_a_cut_drops() {
-    // "The frame is dropped, WEL clears, the lock closes, 0Ah bit 7 and the watchdog's count,
-    // delay and pulse clear; the chip is not selected."
+    // 01 Power: frame and selection, WEL, the lock, and of the watchdog its bit 7 and its counts.
     let mut rig = Rig::new(B2K);
     rig.write(0x04, &[0x09]); // VBATEN
     rig.unlock();
@@ -99,13 +97,13 @@ fn what_a_cut_drops() {
     rig.refused(Act::End, 0, 5);
     rig.up();
     rig.refused(Act::End, 0, 2);
-    // 000: "it is not set again when Vcc is present"
+    // 000, register 5-11: power does not bring bit 7 back.
     assert_eq!(rig.read(0x0A), 0x3F);
 }
 
 #[test]
 fn vbaten_set() {
-    // "VBATEN (04h bit 3) set: registers and SRAM stay and ticks count"
+    // 01 Power: bit 3 of 04h set, so the clock goes on and nothing of it is lost.
     let mut rig = Rig::new(W2K);
     rig.write(0x20, &[0x5A; 64]);
     rig.write(0x00, &[0x00, 0x80, 0x00, 0x00, 0x09]);
@@ -117,7 +115,7 @@ fn vbaten_set() {
     rig.up();
     assert_eq!(rig.time()[..2], [0x00, 0x81]);
     assert_eq!((rig.read(0x04), rig.read(0x09), rig.read(0x3F)), (0x29, 0x12, 0x5A));
-    // "STATUS protection stays."
+    // BP does not need a battery.
     assert_eq!(rig.status(), 0b1000);
     // A cut leaves the VBAT bit (04h bit 4) as it is.
     assert_eq!(rig.device.registers[0x04] & 0x10, 0);
@@ -125,8 +123,7 @@ fn vbaten_set() {
 
 #[test]
 fn vbaten_clear() {
-    // "clear: registers, SRAM, divider and oscillator are as fresh and nothing counts. STATUS
-    // protection stays."
+    // 01 Power: the clock and its SRAM begin anew and stand still until then. BP is kept.
     for part in [W2K, B2K] {
         let mut rig = Rig::new(part);
         rig.write(0x20, &[0x5A; 64]);

@@ -1,4 +1,4 @@
-//! 01 "Acts and refusal numbers": each number on both sides of its limit, every row of number 6,
+//! 01 Acts and refusal numbers: each number on both sides of its limit, every row of number 6,
 //! and which goes first.
 
 mod common;
@@ -52,24 +52,19 @@ fn number_3_by_the_argument() {
     rig.done(Act::Byte, 255);
     rig.refused(Act::Byte, 256, 3);
     rig.refused(Act::Byte, 256 + 6, 3);
-    // "leftover above 7"
     rig.refused(Act::End, 8, 3);
     rig.done(Act::End, 7);
-    // "wait above 16,777,216"
     assert_eq!(rig.done(Act::Wait, 16_777_216).count, 16_777_216);
     rig.refused(Act::Wait, 16_777_217, 3);
     rig.refused(Act::Wait, u64::MAX, 3);
-    // "byte or mask above 255"
     rig.refused(Act::Cut, 256, 3);
     rig.done(Act::Cut, 255);
-    // "select or up with a number other than 0"
     rig.refused(Act::Up, 1, 3);
     rig.done(Act::Up, 0);
 }
 
 #[test]
 fn number_3_by_the_part() {
-    // "part not 1 to 4"
     for part in [0, 5, 6, 255, 256, u64::MAX] {
         let mut rig = Rig::new(W2K);
         rig.part = part;
@@ -82,7 +77,7 @@ fn number_3_by_the_part() {
 
 #[test]
 fn number_4_by_a_memorys_length() {
-    // "EEPROM (128 or 256 bytes) and ID (16 bytes)"
+    // 01 Chip has the lengths.
     for (part, good, bad) in [
         (W1K, 128, [0, 127, 129, 256]),
         (W2K, 256, [0, 128, 255, 257]),
@@ -139,26 +134,19 @@ fn out_of_range(part: u64, change: impl Fn(&mut Device)) {
 #[test]
 fn number_6_counts() {
     for part in [W1K, W2K, B1K, B2K] {
-        // "divider above 32,767"
         in_range(part, |d| d.divider = 32_767);
         out_of_range(part, |d| d.divider = 32_768);
         out_of_range(part, |d| d.divider = u64::MAX);
-        // "start-up count above 32"
         in_range(part, |d| (d.start_up, d.registers[1]) = (32, 0x80));
         out_of_range(part, |d| (d.start_up, d.registers[1]) = (33, 0x80));
-        // "write countdown above 164"
         in_range(part, |d| d.countdown = 164);
         out_of_range(part, |d| d.countdown = 165);
-        // "pulse above 4,096"
         in_range(part, |d| d.pulse = 4_096);
         out_of_range(part, |d| d.pulse = 4_097);
-        // "delay above 2,097,152"
         in_range(part, |d| d.delay = 2_097_152);
         out_of_range(part, |d| d.delay = 2_097_153);
-        // "page offset above 7"
         in_range(part, |d| d.offset = 7);
         out_of_range(part, |d| d.offset = 8);
-        // "ID pointer above 15"
         in_range(part, |d| d.id_pointer = 15);
         out_of_range(part, |d| d.id_pointer = 16);
     }
@@ -166,8 +154,7 @@ fn number_6_counts() {
 
 #[test]
 fn number_6_watchdog_count() {
-    // "watchdog count not below its period"; "32, 512, 2,048, 4,096, 32,768, 524,288, 1,048,576,
-    // 2,097,152 ticks; bit 3 ignored"
+    // 01 Calendar has the periods; only bits 2:0 of 0Ah choose.
     let periods = [32, 512, 2_048, 4_096, 32_768, 524_288, 1_048_576, 2_097_152];
     for (bits, period) in (0..).zip(periods) {
         for others in [0x00, 0x08, 0xF0] {
@@ -179,7 +166,6 @@ fn number_6_watchdog_count() {
 
 #[test]
 fn number_6_eeprom_pointer() {
-    // "EEPROM pointer not below the memory's length"
     for (part, length) in [(W1K, 128), (B1K, 128), (W2K, 256), (B2K, 256)] {
         in_range(part, |d| d.eeprom_pointer = length - 1);
         out_of_range(part, |d| d.eeprom_pointer = length);
@@ -190,7 +176,7 @@ fn number_6_eeprom_pointer() {
 
 #[test]
 fn number_6_register_bits() {
-    // "a stored register bit set outside its mask"; the masks are 01's.
+    // The masks are those of 01 Frames.
     let masks = [
         0xFF, 0xFF, 0x7F, 0xFF, 0x1F, 0x3F, 0x1F, 0xFF, 0xFF, 0xFF, 0xFF, 0xFF, 0x7F, 0x7F, 0x3F,
         0xFF, 0x3F, 0x1F, 0xFF, 0x7F, 0x7F, 0x3F, 0xFF, 0x3F, 0, 0, 0, 0, 0, 0, 0, 0,
@@ -207,7 +193,6 @@ fn number_6_register_bits() {
 
 #[test]
 fn number_6_start_up_with_st_clear() {
-    // "start-up count above 0 on a W part with ST clear"
     for part in [W1K, W2K] {
         in_range(part, |d| d.start_up = 0);
         out_of_range(part, |d| d.start_up = 1);
@@ -221,7 +206,6 @@ fn number_6_start_up_with_st_clear() {
 
 #[test]
 fn number_6_power_off() {
-    // "power off with a frame open or a cycle running"
     for part in [W1K, B2K] {
         in_range(part, |d| d.power = false);
         for frame in [Frame::Empty, Frame::Unheard, heard(0x05)] {
@@ -235,8 +219,7 @@ fn number_6_power_off() {
 
 #[test]
 fn number_6_frame_under_a_cycle() {
-    // "a cycle running with a heard frame open whose code is not one of the five that are heard
-    // under WIP": SRREAD 05, READ 13, WRITE 12, CLRWDT 44, CLRRAM 54.
+    // The five of 01 Frames: SRREAD 05, READ 13, WRITE 12, CLRWDT 44, CLRRAM 54.
     for code in 0..=255 {
         in_range(W2K, |d| d.frame = heard(code));
         match code {
@@ -263,7 +246,7 @@ fn what_the_list_does_not_name_is_in_range() {
     in_range(W2K, |d| d.clock_pointer = 0xFF);
 }
 
-/// "Several at once: 7, 3 for the part, 4, 6, 3, 5, then 1 or 2." (7 is the tape's.)
+/// Under the table of 01 Acts: the order of its numbers. (7 is the tape's.)
 #[test]
 fn which_goes_first() {
     // All of them: a bad part, memory, record, number, power, and no frame.
@@ -317,8 +300,7 @@ fn fresh_is_in_range() {
 
 #[test]
 fn fresh_as_the_paper_has_it() {
-    // "Fresh: power on, not selected, SRAM and registers 0 but day, date and month 01h; both
-    // memories filled with FFh; STATUS 0, locked, all counts 0."
+    // 01 Acts, the last paragraph.
     let mut rig = Rig::new(B2K);
     let d = &rig.device;
     assert!(d.power && d.frame == Frame::Idle && d.lock == Lock::Closed);

@@ -1,4 +1,4 @@
-//! 01 "The tape": which lines are of the form, the part rule, and what is printed.
+//! 01 Tape: which lines are of the form, the part rule, and what is printed.
 
 use model::tape::{answers, parse, Op, Tape};
 use model::Act;
@@ -9,7 +9,7 @@ fn answered(tape: &[u8]) -> Vec<String> {
 
 #[test]
 fn lines_of_the_form() {
-    // "Each line is `op=NAME arg=N`, N of 1 to 8 digits, no needless zero"
+    // Each name once, and the largest number.
     assert_eq!(parse(b"op=part arg=2"), Some((Op::Part, 2)));
     assert_eq!(parse(b"op=select arg=0"), Some((Op::Do(Act::Select), 0)));
     assert_eq!(parse(b"op=byte arg=255"), Some((Op::Do(Act::Byte), 255)));
@@ -32,7 +32,7 @@ fn lines_not_of_the_form() {
         b"op=byte arg",
         b"op=byte arg=",
         b"op=bytearg=1",
-        // "one blank stands between"
+        // a blank too few, too many, or out of place
         b"op=byte  arg=1",
         b"op=byte\targ=1",
         b" op=byte arg=1",
@@ -40,16 +40,16 @@ fn lines_not_of_the_form() {
         b"op= byte arg=1",
         b"op=byte arg =1",
         b"op=byte arg= 1",
-        // "nothing follows the digits"
+        // something after the number
         b"op=byte arg=1 ",
         b"op=byte arg=1\r",
         b"op=byte arg=1x",
         b"op=byte arg=1 op=byte arg=1",
-        // "no needless zero"
+        // a zero in front
         b"op=byte arg=00",
         b"op=byte arg=01",
         b"op=byte arg=00000000",
-        // "1 to 8 digits"
+        // nine digits, or what is no digit
         b"op=wait arg=100000000",
         b"op=wait arg=123456789",
         b"op=wait arg=000000001",
@@ -58,7 +58,7 @@ fn lines_not_of_the_form() {
         b"op=byte arg=0x1",
         b"op=byte arg=1.",
         b"op=byte arg=\xB1",
-        // "NAME is `part` or an act's name"
+        // another name
         b"op=Byte arg=1",
         b"OP=byte arg=1",
         b"op=bytes arg=1",
@@ -90,7 +90,7 @@ fn every_line_is_answered() {
 
 #[test]
 fn the_part_comes_first_and_once() {
-    // "First comes `op=part` [..], once; else 7. One refused with 3 does not count."
+    // 01 Tape: acts wait for a part that is accepted; a second one is 7.
     let numbers: Vec<String> = answered(
         b"op=select arg=0\nop=part arg=0\nop=select arg=0\nop=part arg=5\nop=part arg=99999999\n\
           bad\nop=part arg=04\nop=part arg=4\nop=part arg=4\nop=part arg=5\nop=select arg=0\n",

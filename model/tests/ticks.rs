@@ -1,12 +1,12 @@
-//! 01 "Calendar and ticks": oscillator, divider, alarms, watchdog, and where a wait stops.
+//! 01 Calendar and ticks: oscillator, divider, alarms, watchdog, and where a wait stops.
 
 mod common;
 use common::*;
 
 #[test]
 fn start_up_of_a_w_part() {
-    // "The oscillator is asked to run by ST (01h bit 7) on W parts, always on B parts. OSCON
-    // sets at the 32nd such tick; only later ticks count".
+    // 01 Calendar: a W part starts with ST, a B part by itself. 32 ticks bring OSCON, and the
+    // divider moves from the 33rd on.
     for part in [W1K, W2K] {
         let mut rig = Rig::new(part);
         rig.wait(1_000);
@@ -35,8 +35,7 @@ fn start_up_of_a_w_part() {
 
 #[test]
 fn a_second_has_a_hundred_hundredths() {
-    // "Hundredths advance at each counted tick where floor(100s/32768) grows as s goes from the
-    // divider to the divider plus one; 32,768 is then 0."
+    // 01 Calendar: after s ticks from 0 they show 100 s / 32,768, rounded down; then all anew.
     let mut rig = Rig::new(W2K);
     rig.start_at([0, 0, 0, 0, 1, 1, 1, 0]);
     for s in 1..=32_768u64 {
@@ -86,8 +85,8 @@ fn flags_after_midnight(registers: &[(u8, u8)]) -> (u8, u8) {
 
 #[test]
 fn each_code_matches_its_field() {
-    // "0 seconds, 1 minutes, 2 hours, 3 day, 4 date, 7 all its fields except hundredths (alarm 0
-    // with month); alarm 1 code 5 hundredths; the rest never match"
+    // 01 Calendar: codes 0 to 4 have one field each, from seconds to date. 7 has these together,
+    // on alarm 0 with the month; 5 has the hundredths, on alarm 1. The others have none.
     // Alarm registers that match after midnight, and the bytes that do not.
     let good0 = [(0x0C, 0x00), (0x0D, 0x00), (0x0E, 0x00), (0x10, 0x01), (0x11, 0x05)];
     let good1 = [(0x12, 0x00), (0x13, 0x00), (0x14, 0x00), (0x15, 0x00), (0x17, 0x01)];
@@ -129,9 +128,8 @@ fn each_code_matches_its_field() {
 
 #[test]
 fn tested_when_the_finest_field_advances() {
-    // "tested at the tick that advances the finest field it compares (bench)": from 22:59:58 the
-    // alarm of 23:00:59 matches by its seconds after one second, by its minutes or hours after
-    // two, when they take the value.
+    // 01 Calendar (bench): from 22:59:58 the alarm of 23:00:59 matches by its seconds after one
+    // second, by its minutes or hours after two, when they take the value.
     for (code, until) in [(0, 32_768), (1, 2 * 32_768), (2, 2 * 32_768)] {
         let mut rig = with_alarm(
             [0x00, 0x58, 0x59, 0x22, 0x01, 0x01, 0x01, 0x00],
@@ -188,7 +186,7 @@ fn st_and_vbaten_are_not_compared() {
 
 #[test]
 fn an_alarm_that_is_not_active() {
-    // "An alarm active in 08h (bit 4, bit 5)": alarm 0, alarm 1.
+    // 01 Calendar: bit 4 of 08h is for alarm 0, bit 5 for alarm 1.
     for (control, flags) in [(0x00, (0, 0)), (0x10, (1, 0)), (0x20, (0, 1)), (0x30, (1, 1))] {
         assert_eq!(flags_after_midnight(&[(0x08, control)]), flags);
         assert_eq!(flags_after_midnight(&[(0x08, control | 0xCF)]), flags);
@@ -197,8 +195,7 @@ fn an_alarm_that_is_not_active() {
 
 #[test]
 fn lines_of_an_alarm() {
-    // "IRQ is low while an active alarm's flag is set and its bit 7 clear; bit 7 set puts it on
-    // WDO."
+    // 01 Calendar: active and flag, and IRQ goes low; with bit 7 it is WDO instead.
     for day in [0x0F, 0x16] {
         let active = if day == 0x0F { 0x10 } else { 0x20 };
         for (control, byte, lines) in [
@@ -242,8 +239,8 @@ fn alarms_are_asked_only_when_the_calendar_runs() {
 
 #[test]
 fn watchdog_periods() {
-    // 000, register 5-11: 977 us, 15.6 ms, 62.5 ms, 125 ms, 1 s, 16 s, 32 s, 64 s; in ticks
-    // "32, 512, 2,048, 4,096, 32,768, 524,288, 1,048,576, 2,097,152 ticks; bit 3 ignored".
+    // 000, register 5-11: 977 us, 15.6 ms, 62.5 ms, 125 ms, 1 s, 16 s, 32 s, 64 s. The ticks are
+    // those of 01 Calendar, which does not look at bit 3.
     let periods = [32, 512, 2_048, 4_096, 32_768, 524_288, 1_048_576, 2_097_152];
     for (bits, period) in (0..).zip(periods) {
         for bit3 in [0x00, 0x08] {
@@ -253,7 +250,7 @@ fn watchdog_periods() {
             assert_eq!(rig.wait(period - 1), period - 1);
             assert_eq!((rig.read(0x0A), rig.lines()), (0x80 | bit3 | bits, (1, 1)));
             assert_eq!(rig.wait(period), 1);
-            // "At the period bit 6 sets, the count is 0, WDO goes low"
+            // Timed out: the flag is set, WDO is low, and it begins at 0.
             assert_eq!((rig.read(0x0A), rig.lines()), (0xC0 | bit3 | bits, (1, 0)));
             assert_eq!(rig.device.watchdog, 0);
         }
@@ -262,7 +259,7 @@ fn watchdog_periods() {
 
 #[test]
 fn watchdog_pulses() {
-    // "the pulse is 4 (bit 4 set: 4,096); every later tick takes one off, and at 0 WDO is high"
+    // 01 Calendar: 4 ticks long, or 4,096 by bit 4, and WDO is high again after the last.
     for (byte, pulse) in [(0x80, 4), (0x90, 4_096)] {
         let mut rig = Rig::new(B2K);
         rig.wait(32);
@@ -295,7 +292,7 @@ fn a_time_out_sets_a_running_pulse_anew() {
     rig.wait(32);
     rig.write(0x0A, &[0x90]);
     rig.wait(32);
-    // "Writing 0Ah" does not touch the pulse; a shorter one replaces it.
+    // A write to 0Ah does not touch the pulse; a shorter one replaces it.
     rig.write(0x0A, &[0x80]);
     assert_eq!(rig.device.pulse, 4_096);
     assert_eq!(rig.wait(32), 32);
@@ -305,7 +302,7 @@ fn a_time_out_sets_a_running_pulse_anew() {
 
 #[test]
 fn watchdog_counts_while() {
-    // "It counts while bit 7 is set, bit 6 clear, OSCON set."
+    // 01 Calendar: enabled, not timed out, and with the oscillator on.
     for (byte, counts) in [(0x80, true), (0x00, false), (0xC0, false), (0x40, false)] {
         let mut rig = Rig::new(B2K);
         rig.wait(32);
@@ -329,8 +326,8 @@ fn watchdog_counts_while() {
 
 #[test]
 fn writing_0ah() {
-    // "Writing 0Ah zeroes the count and sets the delay to 2,097,152 if bits 7 and 5 are set and
-    // 6 clear, else 0."
+    // 01 Calendar: the count begins anew; a delay of 2,097,152 comes with bits 7 and 5, but not
+    // with 6, and every other byte ends it.
     let mut rig = Rig::new(B2K);
     rig.wait(32);
     for byte in 0..=255u8 {
@@ -348,12 +345,12 @@ fn writing_0ah() {
 }
 
 #[test]
-fn the_delay_runs_down_first() {
-    // "The delay runs down first, under the same conditions as the count."
+fn the_count_waits_for_the_delay() {
+    // 01 Calendar: until the delay is used up the count stands, and both want the same bits.
     let mut rig = Rig::new(B2K);
     rig.wait(32);
     rig.write(0x0A, &[0xA0]);
-    // "CLRWDT zeroes the count only."
+    // CLRWDT is for the count; the delay goes on.
     rig.wait(10);
     rig.frame(&[0x44]);
     assert_eq!(rig.device.delay, 2_097_142);
@@ -385,8 +382,8 @@ fn clrwdt_keeps_the_watchdog_quiet() {
 }
 
 #[test]
-fn wdo_is_high_unless_an_alarm_holds_it() {
-    // "at 0 WDO is high unless an alarm holds it"
+fn an_alarm_keeps_wdo_low_after_the_pulse() {
+    // 01 Calendar: the pulse is over, the alarm's level is not.
     let mut rig = Rig::new(B2K);
     rig.wait(32);
     rig.write(0x08, &[0x10]);

@@ -1,4 +1,4 @@
-//! 01 "Edges to show", the five traps.
+//! 01 Edges, the five traps.
 
 mod common;
 use common::*;
@@ -6,13 +6,12 @@ use model::calendar::next_hours;
 
 #[test]
 fn enable_works_at_its_end() {
-    // "letting EEWREN work before its end"; 000, 3.2: "CS must be driven high to set the write
-    // enable latch".
+    // 000 3.2: it is CS going high that sets the latch.
     let mut rig = Rig::new(W2K);
     rig.select();
     rig.byte(0x06);
     assert!(!rig.device.wel);
-    // "without CS driven high, data will not be written"
+    // 000 3.2: a write in the same frame comes too early.
     for byte in [0x02, 0x00, 0x34] {
         assert_eq!(rig.byte(byte), None);
     }
@@ -26,7 +25,7 @@ fn enable_works_at_its_end() {
 
 #[test]
 fn page_write_stays_in_its_page() {
-    // "rolling a page write into the next page"
+    // The page ends at 0Fh; 10h is the next.
     let mut rig = Rig::new(W2K);
     rig.eeprom_write(0x0E, &[1, 2, 3]);
     rig.wait(164);
@@ -35,7 +34,7 @@ fn page_write_stays_in_its_page() {
 
 #[test]
 fn sram_does_not_reach_60h() {
-    // "rolling SRAM into 60h"
+    // After 5Fh comes 20h.
     let mut rig = Rig::new(W2K);
     rig.write(0x20, &[9]);
     rig.write(0x5E, &[1, 2]);
@@ -44,7 +43,7 @@ fn sram_does_not_reach_60h() {
 
 #[test]
 fn calsgn_stays_when_hours_carry() {
-    // "dropping CALSGN when hours carry": bit 7 of 03h.
+    // CALSGN is bit 7 of 03h.
     assert_eq!(next_hours(0xA3), (0x80, true)); // 24-hour 23 to 00
     assert_eq!(next_hours(0xF1), (0xD2, true)); // 11 PM to 12 AM
     let mut rig = Rig::new(W2K);
@@ -56,7 +55,7 @@ fn calsgn_stays_when_hours_carry() {
 
 #[test]
 fn wait_stops_at_an_alarm() {
-    // "a wait that jumps over an alarm"
+    // The longest wait ends at the alarm, three seconds on.
     let mut rig = Rig::new(W2K);
     rig.start_at([0, 0, 0, 0, 1, 1, 1, 0]);
     rig.write(0x08, &[0x10]);

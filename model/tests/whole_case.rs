@@ -1,4 +1,4 @@
-//! 01 "The tape": the whole case, sixteen answers.
+//! 01 Tape: the whole case, sixteen answers.
 
 use model::tape::answers;
 
@@ -23,8 +23,7 @@ op=end arg=0
 
 #[test]
 fn sixteen_answers() {
-    // "Sixteen answers, all `no=0 out=z irq=1 wdo=1` but the 11th `out=164` and the 15th
-    // `out=52`."
+    // The wait and the byte that is read show a number.
     let mut expected = vec!["no=0 out=z irq=1 wdo=1"; 16];
     expected[10] = "no=0 out=164 irq=1 wdo=1";
     expected[14] = "no=0 out=52 irq=1 wdo=1";

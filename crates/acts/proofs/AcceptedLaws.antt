@@ -1,4 +1,4 @@
--- What an act that no row of the table refuses may suppose: a number that is a byte, pointers inside the lent memories, and a page inside
+-- What an act that no row of the table refuses may suppose: an argument that is a byte, pointers inside the lent memories, and a page inside
 -- its memory.
 -- Assumes nothing.
 use mathlib.Core.Path.{_≡_, refl}
@@ -13,32 +13,32 @@ use Rattle.record.specs.declared.Device.{Device}
 use Rattle.record.specs.Address.{pageOf}
 use Rattle.refusals.specs.InRange.{InRange}
 use Rattle.record.specs.Part.{sizeOf, idSize}
-use Rattle.record.specs.Stages.{eepromAt, idAt, eepromIn, idIn}
+use Rattle.record.specs.Stages.{framePlace, cyclePlace, eepromPointer, idPointer}
 use Rattle.record.proofs.PartLaws.{whole-pages, page-fits}
 use Rattle.refusals.specs.Refusal.{refusalOf}
 use Rattle.refusals.proofs.RangeLaws.{in-range}
 use Rattle.refusals.proofs.TableLaws.{Accepted, accepted}
 
--- a number that its row lets through is its own byte
-byte-number : (most n : ℕ) → most < 256 → ltb most n ≡ false → n % 256 ≡ n
-byte-number most n h e = omega (arith, ltb-false most n e)
+-- an argument that its row lets through is its own byte
+byte-arg : (most n : ℕ) → most < 256 → ltb most n ≡ false → n % 256 ≡ n
+byte-arg most n h e = omega (arith, ltb-false most n e)
 
 -- of the acts that take a byte, a leftover or a mask
 pub accepted-byte : (part n : ℕ) (d : Device) (ee id : ℕ) → refusalOf part Byte n d ee id ≡ 0 → n % 256 ≡ n
-accepted-byte part n d ee id e = byte-number 255 n (lit< tt) (accepted part Byte n d ee id e .number)
+accepted-byte part n d ee id e = byte-arg 255 n (lit< tt) (accepted part Byte n d ee id e .arg)
 
 pub accepted-end : (part n : ℕ) (d : Device) (ee id : ℕ) → refusalOf part End n d ee id ≡ 0 → n % 256 ≡ n
-accepted-end part n d ee id e = byte-number 7 n (lit< tt) (accepted part End n d ee id e .number)
+accepted-end part n d ee id e = byte-arg 7 n (lit< tt) (accepted part End n d ee id e .arg)
 
 pub accepted-cut : (part n : ℕ) (d : Device) (ee id : ℕ) → refusalOf part Cut n d ee id ≡ 0 → n % 256 ≡ n
-accepted-cut part n d ee id e = byte-number 255 n (lit< tt) (accepted part Cut n d ee id e .number)
+accepted-cut part n d ee id e = byte-arg 255 n (lit< tt) (accepted part Cut n d ee id e .arg)
 
 -- a record and memories of lengths ee and id
 pub record Suits (d : Device) (ee id : ℕ) : Type 0 where
-  pub frameEeprom : eepromAt (d .frame .stage) < ee
-  pub frameId : idAt (d .frame .stage) < id
-  pub pageEeprom : pageOf (eepromIn (d .cycle .target)) + 8 ≤ ee
-  pub pageId : pageOf (idIn (d .cycle .target)) + 8 ≤ id
+  pub frameEeprom : eepromPointer (framePlace (d .frame .stage)) < ee
+  pub frameId : idPointer (framePlace (d .frame .stage)) < id
+  pub pageEeprom : pageOf (eepromPointer (cyclePlace (d .cycle .target))) + 8 ≤ ee
+  pub pageId : pageOf (idPointer (cyclePlace (d .cycle .target))) + 8 ≤ id
 
 pub suits : (part : ℕ) (act : Act) (n : ℕ) (d : Device) (ee id : ℕ) → refusalOf part act n d ee id ≡ 0 → Suits d ee id
 suits part act n d ee id e =
@@ -46,8 +46,8 @@ suits part act n d ee id e =
     let r : InRange part d = in-range part d (a .ranged) in
     rw (a .eeprom, a .ids)
     (record {
-      frameEeprom = r .frameEeprom;
-      frameId = r .frameId;
-      pageEeprom = page-fits (eepromIn (d .cycle .target)) (sizeOf part) (r .cycleEeprom) (whole-pages part);
-      pageId = page-fits (idIn (d .cycle .target)) idSize (r .cycleId) refl;
+      frameEeprom = r .frame .place .eeprom;
+      frameId = r .frame .place .id;
+      pageEeprom = page-fits _ (sizeOf part) (r .cycle .place .eeprom) (whole-pages part);
+      pageId = page-fits _ idSize (r .cycle .place .id) refl;
     })

@@ -1,4 +1,4 @@
 pub mod AcceptedLaws
-pub mod KeptLaws
+pub mod ValidLaws
 pub mod PageLaws
 pub mod OutcomeLaws

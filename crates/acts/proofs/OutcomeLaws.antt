@@ -1,10 +1,10 @@
--- What an outcome's number and count say: an act is answered by the table, an accepted one 0 and none 7, and a refused wait counts no tick.
+-- What an outcome's number says: an act is answered by the table, an accepted one 0 and none 7; any other number than 0 changes nothing.
 -- Assumes nothing.
 use mathlib.Core.Path.{_≡_, refl, sym, ap, subst, _∙_}
-use mathlib.Core.Bool.{Bool, false, not, true≢false}
+use mathlib.Core.Bool.{Bool, false, not}
 use Prim.Native.Nat.{ℕ, _<_}
 use native.Mathlib.Omega.{arith}
-use borrow.Author.Tests.{eqb-true}
+use borrow.Author.Tests.{eqb-true, eq-eqb}
 use lib.Dec.{eqb}
 use lib.ListN.{length}
 use Rattle.base.proofs.Tests.{by-cases, pick-case, yes, no}
@@ -14,32 +14,47 @@ use Rattle.record.specs.declared.Device.{Device}
 use Rattle.record.specs.Part.{isPart}
 use Rattle.record.specs.Stages.{selected}
 use Rattle.refusals.specs.Range.{outOfRange}
-use Rattle.refusals.specs.Refusal.{wrongLength, wrongNumber, wrongPower, wrongSelect, refusalOf}
-use Rattle.device.specs.World.{World}
+use Rattle.refusals.specs.Refusal.{wrongLength, wrongArg, wrongPower, wrongSelect, refusalOf}
+use Rattle.record.specs.World.{World}
 use Rattle.acts.specs.Act.{Outcome, accepted, refused, refusalIn, performed}
 
 -- an accepted act is answered 0
-pub done-zero : (part n : ℕ) (w : World) (act : Act) → accepted part n w act .number ≡ 0
-done-zero part n w Select = refl
-done-zero part n w Byte = refl
-done-zero part n w End = refl
-done-zero part n w Wait = refl
-done-zero part n w Cut = refl
-done-zero part n w Up = refl
+pub done-zero : (part arg : ℕ) (w : World) (act : Act) → accepted part arg w act .number ≡ 0
+done-zero part arg w Select = refl
+done-zero part arg w Byte = refl
+done-zero part arg w End = refl
+done-zero part arg w Wait = refl
+done-zero part arg w Cut = refl
+done-zero part arg w Up = refl
 
--- a refused act changes nothing
-pub refused-same : (number : ℕ) (w : World) → refused number w .after ≡ w
-refused-same number w = refl
+-- by the table's number
+pub by-refusal :
+    (part : ℕ) (act : Act) (arg : ℕ) (w : World) → eqb (refusalIn part act arg w) 0 ≡ false
+    → performed part act arg w ≡ refused (refusalIn part act arg w) w
+unfolding performed
+by-refusal part act arg w t = sym (no (accepted part arg w act) (refused (refusalIn part act arg w) w) t)
+
+pub by-acceptance :
+    (part : ℕ) (act : Act) (arg : ℕ) (w : World) → refusalIn part act arg w ≡ 0 → performed part act arg w ≡ accepted part arg w act
+unfolding performed
+by-acceptance part act arg w e = sym (yes (accepted part arg w act) (refused (refusalIn part act arg w) w) (eq-eqb _ _ e))
 
 -- every act is answered with the table's number, refused or not
-pub answered-by-table : (part : ℕ) (act : Act) (n : ℕ) (w : World) → performed part act n w .number ≡ refusalIn part act n w
-unfolding performed
-answered-by-table part act n w =
-    by-cases (eqb (refusalIn part act n w) 0)
+pub answered-by-table : (part : ℕ) (act : Act) (arg : ℕ) (w : World) → performed part act arg w .number ≡ refusalIn part act arg w
+answered-by-table part act arg w =
+    by-cases (eqb (refusalIn part act arg w) 0)
     (λ t.
-    ap (λ (o : Outcome). o .number) (sym (yes (accepted part n w act) (refused (refusalIn part act n w) w) t))
-    ∙ done-zero part n w act ∙ sym (eqb-true (refusalIn part act n w) 0 t))
-    (λ t. ap (λ (o : Outcome). o .number) (sym (no (accepted part n w act) (refused (refusalIn part act n w) w) t)))
+    let e : refusalIn part act arg w ≡ 0 = eqb-true _ _ t in
+    ap (λ (o : Outcome). o .number) (by-acceptance part act arg w e) ∙ done-zero part arg w act ∙ sym e)
+    (λ t. ap (λ (o : Outcome). o .number) (by-refusal part act arg w t))
+
+-- an act that is answered another number than 0 leaves the world as it was, and has no reply and no count
+pub refused-same :
+    (part : ℕ) (act : Act) (arg : ℕ) (w : World) → eqb (performed part act arg w .number) 0 ≡ false
+    → performed part act arg w ≡ refused (performed part act arg w .number) w
+refused-same part act arg w e =
+    let t : eqb (refusalIn part act arg w) 0 ≡ false = ap (λ (k : ℕ). eqb k 0) (sym (answered-by-table part act arg w)) ∙ e in
+    by-refusal part act arg w t ∙ ap (λ (k : ℕ). refused k w) (sym (answered-by-table part act arg w))
 
 -- number 7 is the tape's: no act is answered with it
 last-below : (act : Act) (sel : Bool) → wrongSelect act sel < 7
@@ -57,7 +72,7 @@ table-below part act n d ee id =
     pick-case P (not (isPart part)) (omega arith)
     (pick-case P (wrongLength part ee id) (omega arith)
     (pick-case P (outOfRange part d) (omega arith)
-    (pick-case P (wrongNumber act n) (omega arith)
+    (pick-case P (wrongArg act n) (omega arith)
     (pick-case P (wrongPower act (d .power)) (omega arith) (last-below act (selected (d .frame .stage)))))))
 
 pub never-seven : (part : ℕ) (act : Act) (n : ℕ) (w : World) → performed part act n w .number < 7
@@ -65,10 +80,3 @@ never-seven part act n w =
     subst (λ (k : ℕ). k < 7) (sym (answered-by-table part act n w))
     (table-below part act n (w .device) (length (w .eeprom)) (length (w .id)))
 
--- a refused wait counts no tick
-pub refused-count : (part n : ℕ) (w : World) → eqb (performed part Wait n w .number) 0 ≡ false → performed part Wait n w .count ≡ 0
-unfolding performed
-refused-count part n w e =
-    by-cases (eqb (refusalIn part Wait n w) 0)
-    (λ t. absurd (true≢false (ap (λ (o : Outcome). eqb (o .number) 0) (yes (accepted part n w Wait) (refused (refusalIn part Wait n w) w) t) ∙ e)))
-    (λ t. ap (λ (o : Outcome). o .count) (sym (no (accepted part n w Wait) (refused (refusalIn part Wait n w) w) t)))

@@ -6,8 +6,8 @@ ghost use Prim.Native.Nat.{_+_, _≤_};
 ghost use lib.ListN.{length, replicate};
 ghost use Rattle.base.specs.Words.{storeUnder};
 ghost use Rattle.record.specs.Address.{pageOf};
-ghost use Rattle.record.specs.Stages.{eepromIn, idIn};
-ghost use Rattle.device.specs.World.{eepromAfter, idAfter};
+ghost use Rattle.record.specs.Stages.{cyclePlace, eepromPointer, idPointer};
+ghost use Rattle.record.specs.Stored.{eepromAfter, idAfter};
 
 // For each offset in the set, the byte of the page becomes that of bytes.
 fn store(page: &mut [u8], set: u8, bytes: [u8; 8])
@@ -25,7 +25,7 @@ fn store(page: &mut [u8], set: u8, bytes: [u8; 8])
 
 // What a write cycle's page changes under a mask, in the memory that it is for.
 pub fn store_target(target: Target, load: Load, mask: u8, eeprom: &mut [u8], id: &mut [u8])
-    requires { ⌜ (pageOf (eepromIn target) + 8 ≤ length (now eeprom)) × (pageOf (idIn target) + 8 ≤ length (now id)) ⌝ }
+    requires { ⌜ (pageOf (eepromPointer (cyclePlace target)) + 8 ≤ length (now eeprom)) × (pageOf (idPointer (cyclePlace target)) + 8 ≤ length (now id)) ⌝ }
     ensures { λ _. ⌜ (now (eeprom .exit) ≡ eepromAfter load mask (now (eeprom .entry)) target) × (now (id .exit) ≡ idAfter load mask (now (id .entry)) target) ⌝ }
 {
     let set = load.offsets & mask;

@@ -1,25 +1,25 @@
--- What a line answers, and what the chip on the tape is after it. Document 01, "The tape": "First comes `op=part` (1 W 1K, 2 W 2K, 3 B 1K,
--- 4 B 2K), once; else 7. One refused with 3 does not count." What an act does is not said here: it is the act's definition.
+-- What a line answers, and what the chip on the tape is after it. What an act does is not said here: it is the act's definition.
 -- Assumes nothing.
 use Prim.Native.Nat.{ℕ}
 use mathlib.Core.Path.{_≡_}
 use mathlib.Core.Bool.{Bool, true, false, not, _||_}
 use mathlib.Core.List.{List}
 use lib.Dec.{eqb}
-use lib.ListN.{take}
+use lib.ListN.{length, take}
 use Rattle.base.specs.Words.{pick}
 use Rattle.record.specs.declared.Act.{Act}
 use Rattle.record.specs.declared.Device.{Device}
-use Rattle.record.specs.Part.{isPart, sizeOf}
-use Rattle.device.specs.World.{World, world}
-use Rattle.block.specs.Lines.{irqLow, wdoLow}
+use Rattle.record.specs.Part.{isPart, sizeOf, idSize}
+use Rattle.record.specs.World.{World, world, freshWorld}
+use Rattle.ticks.specs.Lines.{irqLow, wdoLow}
 use Rattle.acts.specs.Act.{Outcome, performed}
-use Rattle.run.specs.Claim.{freshWorld}
-use Rattle.text.specs.declared.Request.{Request}
-use Rattle.text.specs.declared.Request.the-variants.{PartLine, ActLine, Bad}
-use Rattle.text.specs.Text.{Buffer, buffer, append}
-use Rattle.text.specs.Request.{badLine, requestOf}
-use Rattle.text.specs.Print.{Out, z, counts, outOf, answerLine}
+use Rattle.text.specs.Buffer.{Buffer, buffer, append}
+use Rattle.lines.specs.declared.Request.{Request}
+use Rattle.lines.specs.declared.Request.the-variants.{PartLine, ActLine, Bad}
+use Rattle.lines.specs.declared.Out.{Out}
+use Rattle.lines.specs.declared.Out.the-variants.{Z}
+use Rattle.lines.specs.Request.{badLine, requestOf}
+use Rattle.lines.specs.Print.{outOf, answerLine}
 use Rattle.answers.specs.declared.Progress.{Progress}
 
 -- the part that was accepted, 0 while there is none, and its chip with the memories
@@ -33,69 +33,71 @@ setup part chip = record { part = part; chip = chip }
 abbrev pub noPart : Setup → Bool
 noPart s = eqb (s .part) 0
 
--- a fresh chip of a part, as a run begins
+-- A36. A tape's part begins fresh (01's term).
 abbrev pub freshSetup : ℕ → Setup
 freshSetup part = setup part (freshWorld part)
 
--- an answer: its number, V, and what is left
-pub record Answered : Type 0 where
+-- an answer: its number, what it shows, and what is left
+pub record LineAnswer : Type 0 where
   pub number : ℕ
   pub out : Out
   pub after : Setup
 
-abbrev pub answer : ℕ → Out → Setup → Answered
+abbrev pub answer : ℕ → Out → Setup → LineAnswer
 answer number out after = record { number = number; out = out; after = after }
 
--- the tape's own refusals change nothing and show no value
-abbrev pub refusedLine : ℕ → Setup → Answered
-refusedLine number s = answer number z s
+-- A34. A line that is refused shows none and changes nothing.
+abbrev pub refusedLine : ℕ → Setup → LineAnswer
+refusedLine number s = answer number Z s
 
--- "First comes `op=part` .., once; else 7. One refused with 3 does not count."
-abbrev pub partAnswer : ℕ → Setup → Answered
-partAnswer n s = pick (noPart s) (pick (isPart n) (answer 0 z (freshSetup n)) (refusedLine 3 s)) (refusedLine 7 s)
+-- T6, T7. A part is taken once; a second is 7. One that is none of the four is refused with 3, and the tape stays without a part.
+abbrev pub partAnswer : ℕ → Setup → LineAnswer
+partAnswer arg s = pick (noPart s) (pick (isPart arg) (answer 0 Z (freshSetup arg)) (refusedLine 3 s)) (refusedLine 7 s)
 
 -- what an act's outcome shows
-abbrev pub outcomeAnswer : ℕ → Act → Outcome → Answered
-outcomeAnswer part a o = answer (o .number) (outOf (o .number) (counts a) (o .reply) (o .count)) (setup part (o .after))
+abbrev pub outcomeAnswer : ℕ → Act → Outcome → LineAnswer
+outcomeAnswer part act o = answer (o .number) (outOf (o .number) act (o .reply) (o .count)) (setup part (o .after))
 
-abbrev pub actAnswer : Act → ℕ → Setup → Answered
-actAnswer a n s = pick (noPart s) (refusedLine 7 s) (outcomeAnswer (s .part) a (performed (s .part) a n (s .chip)))
+-- T6. An act before the part is 7.
+abbrev pub actAnswer : Act → ℕ → Setup → LineAnswer
+actAnswer act arg s = pick (noPart s) (refusedLine 7 s) (outcomeAnswer (s .part) act (performed (s .part) act arg (s .chip)))
 
-abbrev pub requestAnswer : Request → Setup → Answered
-requestAnswer (PartLine n) s = partAnswer n s
-requestAnswer (ActLine a n) s = actAnswer a n s
+abbrev pub requestAnswer : Request → Setup → LineAnswer
+requestAnswer (PartLine arg) s = partAnswer arg s
+requestAnswer (ActLine act arg) s = actAnswer act arg s
 requestAnswer Bad s = refusedLine 7 s
 
-unfoldable pub lineAnswer : List ℕ → Setup → Answered
+unfoldable pub lineAnswer : List ℕ → Setup → LineAnswer
 lineAnswer line s = requestAnswer (requestOf line) s
 
--- 7 in the paper's words, apart from the choices above. That a line is answered 7 exactly then is proved in AnswerLaws.
+-- A31, A32. When a line is 7, said apart from the choices above. That it is 7 exactly then is proved.
 pub data SevenRow (line : List ℕ) (s : Setup) : Type 0 where
-  -- "a tape line not of the form below"
+  -- A31. The line is bad by itself.
   bad : badLine line ≡ true → SevenRow line s
-  -- "First comes `op=part`": an act's line before a part
-  early : (a : Act) (n : ℕ) → requestOf line ≡ ActLine a n → noPart s ≡ true → SevenRow line s
-  -- "once": a part's line after a part
-  again : (n : ℕ) → requestOf line ≡ PartLine n → noPart s ≡ false → SevenRow line s
+  -- T6. It names an act, and there is no part yet.
+  early : (act : Act) (arg : ℕ) → requestOf line ≡ ActLine act arg → noPart s ≡ true → SevenRow line s
+  -- T6. It names a part, and there is one.
+  again : (arg : ℕ) → requestOf line ≡ PartLine arg → noPart s ≡ false → SevenRow line s
 
--- "without a part the levels are 1"
-abbrev pub irqHigh : Setup → Bool
-irqHigh s = noPart s || not (irqLow (s .chip .device))
+-- T9. A level is high without a part, and where the chip does not hold it low.
+abbrev pub levelHigh : ℕ → Bool → Bool
+levelHigh part low = eqb part 0 || not low
 
-abbrev pub wdoHigh : Setup → Bool
-wdoHigh s = noPart s || not (wdoLow (s .chip .device))
+-- an answer's line, with the levels of a part and a record
+abbrev pub lineOf : ℕ → Out → ℕ → Device → List ℕ
+lineOf number out part d = answerLine number out (levelHigh part (irqLow d)) (levelHigh part (wdoLow d))
 
--- the text of an answer, with the levels after it
-unfoldable pub answerText : Answered → List ℕ
-answerText a = answerLine (a .number) (a .out) (irqHigh (a .after)) (wdoHigh (a .after))
+-- T8. The text of an answer, with the levels after it.
+unfoldable pub answerText : LineAnswer → List ℕ
+answerText a = lineOf (a .number) (a .out) (a .after .part) (a .after .chip .device)
 
--- an answer put into a buffer, and what is left
+-- an answer written into a buffer, and what is left
 pub record Shown : Type 0 where
   pub after : Setup
-  pub out : Buffer
+  pub written : Buffer
 
-abbrev pub shownIn : Buffer → Answered → Shown
-shownIn o a = record { after = a .after; out = append o (answerText a) }
+abbrev pub shownIn : Buffer → LineAnswer → Shown
+shownIn o a = record { after = a .after; written = append o (answerText a) }
 
 -- The EEPROM is lent as the bytes of the largest part; a smaller part has the first of them.
 abbrev pub eepromRoom : ℕ
@@ -105,6 +107,14 @@ eepromRoom = 256
 abbrev pub setupOf : ℕ → Device → List ℕ → List ℕ → Setup
 setupOf part d ee id = setup part (world d (take (sizeOf part) ee) id)
 
--- what the code's answer, the memories and the output say together
+abbrev pub setupIn : Progress → List ℕ → List ℕ → Setup
+setupIn p ee id = setupOf (p .part) (p .device) ee id
+
+-- the sizes of the lent memories
+pub record Lent (ee ids : List ℕ) : Type 0 where
+  pub eeprom : length ee ≡ eepromRoom
+  pub id : length ids ≡ idSize
+
+-- what the code's answer, the memories and the buffer say together
 abbrev pub shownBy : Progress → List ℕ → List ℕ → List ℕ → Shown
-shownBy r ee id out = record { after = setupOf (r .part) (r .device) ee id; out = buffer out (r .at) }
+shownBy r ee id bytes = record { after = setupIn r ee id; written = buffer bytes (r .at) }

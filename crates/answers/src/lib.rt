@@ -1,19 +1,15 @@
 // What a line answers. The EEPROM is lent as the 256 bytes of the largest part; a 1 Kbit part has the first 128.
+use lines::Out;
+use lines::Request;
 use record::Act;
 use record::Device;
-use record::Reply;
-use text::Request;
 ghost use mathlib.Core.Path.{_≡_};
-ghost use mathlib.Core.Bool.{not, _||_};
 ghost use mathlib.Core.List.{List};
 ghost use Prim.Native.Nat.{ℕ, _+_, _≤_};
-ghost use lib.Dec.{eqb};
 ghost use lib.ListN.{length};
-ghost use Rattle.record.specs.Part.{idSize};
-ghost use Rattle.block.specs.Lines.{irqLow, wdoLow};
-ghost use Rattle.text.specs.Text.{buffer, append};
-ghost use Rattle.text.specs.Print.{outOf, answerLine, answerRoom};
-ghost use Rattle.answers.specs.Answer.{partAnswer, actAnswer, refusedLine, lineAnswer, shownIn, shownBy, setupOf, eepromRoom};
+ghost use Rattle.text.specs.Buffer.{buffer};
+ghost use Rattle.lines.specs.Print.{answerRoom};
+ghost use Rattle.answers.specs.Answer.{answer, levelHigh, partAnswer, actAnswer, refusedLine, lineAnswer, shownIn, shownBy, setupOf, setupIn, Lent};
 
 // How far a tape has come between two lines: its part, 0 while none is accepted, the chip's record, and the place in the output.
 pub struct Progress {
@@ -22,101 +18,84 @@ pub struct Progress {
     pub at: usize,
 }
 
-// A level is high without a part, and where the chip does not hold it low.
+// T9. A level is high without a part, and where the chip does not hold it low.
 fn high(part: u64, low: bool) -> bool
-    ensures { λ r. ⌜ r ≡ (eqb part 0 || not low) ⌝ }
+    ensures { λ r. ⌜ r ≡ levelHigh part low ⌝ }
 {
     (part == 0) | !low
 }
 
-// Puts an answer's line with the levels of a part and a record.
-fn put_line(
-    number: u8,
-    counted: bool,
-    reply: Reply,
-    count: u64,
-    part: u64,
-    d: Device,
-    out: &mut [u8],
-    at: usize,
-) -> usize
-    requires { ⌜ at + answerRoom ≤ length (now out) ⌝ }
-    ensures { λ r. ⌜ buffer (now (out .exit)) r ≡ append (buffer (now (out .entry)) at) (answerLine number (outOf number counted reply count) (eqb part 0 || not (irqLow d)) (eqb part 0 || not (wdoLow d))) ⌝ }
+// Puts an answer's line with the levels of a part and a record, whatever the memories hold.
+fn told(number: u8, out: Out, part: u64, d: Device, into: &mut [u8], at: usize) -> Progress
+    requires { ⌜ at + answerRoom ≤ length (now into) ⌝ }
+    ensures { λ r. ⌜ ((ee id : List ℕ) → shownBy r ee id (now (into .exit))
+        ≡ shownIn (buffer (now (into .entry)) at) (answer number out (setupOf part d ee id))) ⌝ }
 {
-    let irq = high(part, block::lines::irq_low(d));
-    let wdo = high(part, block::lines::wdo_low(d));
-    text::print::put_answer(number, counted, reply, count, irq, wdo, out, at)
-}
-
-// A line that the tape itself refuses, whatever the memories hold.
-fn refused_line(number: u8, p: Progress, out: &mut [u8]) -> Progress
-    requires { ⌜ p .at + answerRoom ≤ length (now out) ⌝ }
-    ensures { λ r. ⌜ ((ee id : List ℕ) → shownBy r ee id (now (out .exit)) ≡ shownIn (buffer (now (out .entry)) (p .at)) (refusedLine number (setupOf (p .part) (p .device) ee id))) ⌝ }
-{
-    let at = p.at;
-    let d = p.device;
-    let place = put_line(number, false, Reply::Off, 0, p.part, d, out, at);
+    let irq = high(part, ticks::lines::irq_low(d));
+    let wdo = high(part, ticks::lines::wdo_low(d));
+    let end = lines::print::put_answer(number, out, irq, wdo, into, at);
     Progress {
-        part: p.part,
+        part,
         device: d,
-        at: place,
+        at: end,
     }
 }
 
-// A line `op=part`: the first of a part that there is makes a fresh chip.
-fn part_line(n: u64, p: Progress, eeprom: &mut [u8], id: &mut [u8], out: &mut [u8]) -> Progress
-    requires { ⌜ (length (now eeprom) ≡ eepromRoom) × (length (now id) ≡ idSize) × (p .at + answerRoom ≤ length (now out)) ⌝ }
-    ensures { λ r. ⌜ shownBy r (now (eeprom .exit)) (now (id .exit)) (now (out .exit)) ≡ shownIn (buffer (now (out .entry)) (p .at)) (partAnswer n (setupOf (p .part) (p .device) (now (eeprom .entry)) (now (id .entry)))) ⌝ }
+// A34. A line that is refused, whatever the memories hold.
+fn refused_line(number: u8, p: Progress, into: &mut [u8]) -> Progress
+    requires { ⌜ p .at + answerRoom ≤ length (now into) ⌝ }
+    ensures { λ r. ⌜ ((ee id : List ℕ) → shownBy r ee id (now (into .exit))
+        ≡ shownIn (buffer (now (into .entry)) (p .at)) (refusedLine number (setupIn p ee id))) ⌝ }
+{
+    let d = p.device;
+    told(number, Out::Z, p.part, d, into, p.at)
+}
+
+// T6, T7. A line `op=part`: the first of a part that there is makes a fresh chip.
+fn part_line(arg: u64, p: Progress, eeprom: &mut [u8], id: &mut [u8], into: &mut [u8]) -> Progress
+    requires { ⌜ Lent (now eeprom) (now id) ⌝ }
+    requires { ⌜ p .at + answerRoom ≤ length (now into) ⌝ }
+    ensures { λ r. ⌜ shownBy r (now (eeprom .exit)) (now (id .exit)) (now (into .exit))
+        ≡ shownIn (buffer (now (into .entry)) (p .at)) (partAnswer arg (setupIn p (now (eeprom .entry)) (now (id .entry)))) ⌝ }
 {
     let none = p.part == 0;
     if !none {
-        return refused_line(7, p, out);
+        return refused_line(7, p, into);
     }
-    let is_part = record::part::is_part(n);
+    let is_part = record::part::is_part(arg);
     if !is_part {
-        return refused_line(3, p, out);
+        return refused_line(3, p, into);
     }
     acts::page::erase(eeprom);
     acts::page::erase(id);
-    let fresh = record::fresh_device();
-    let at = p.at;
-    let place = put_line(0, false, Reply::Off, 0, n, fresh, out, at);
-    Progress {
-        part: n,
-        device: fresh,
-        at: place,
-    }
+    told(0, Out::Z, arg, record::fresh_device(), into, p.at)
 }
 
-// A line of an act.
+// T6. A line of an act.
 fn act_line(
     act: Act,
-    n: u64,
+    arg: u64,
     p: Progress,
     eeprom: &mut [u8],
     id: &mut [u8],
-    out: &mut [u8],
+    into: &mut [u8],
 ) -> Progress
-    requires { ⌜ (length (now eeprom) ≡ eepromRoom) × (length (now id) ≡ idSize) × (p .at + answerRoom ≤ length (now out)) ⌝ }
-    ensures { λ r. ⌜ shownBy r (now (eeprom .exit)) (now (id .exit)) (now (out .exit)) ≡ shownIn (buffer (now (out .entry)) (p .at)) (actAnswer act n (setupOf (p .part) (p .device) (now (eeprom .entry)) (now (id .entry)))) ⌝ }
+    requires { ⌜ Lent (now eeprom) (now id) ⌝ }
+    requires { ⌜ p .at + answerRoom ≤ length (now into) ⌝ }
+    ensures { λ r. ⌜ shownBy r (now (eeprom .exit)) (now (id .exit)) (now (into .exit))
+        ≡ shownIn (buffer (now (into .entry)) (p .at)) (actAnswer act arg (setupIn p (now (eeprom .entry)) (now (id .entry)))) ⌝ }
 {
     let none = p.part == 0;
     if none {
-        return refused_line(7, p, out);
+        return refused_line(7, p, into);
     }
     let size = record::part::size(p.part) as usize;
     let d = p.device;
-    let a = acts::perform(p.part, act, n, d, &mut eeprom[..size], id);
-    let counted = text::print::counts_of(act);
+    let a = acts::perform(p.part, act, arg, d, &mut eeprom[..size], id);
     let reply = a.reply;
     let next = a.device;
-    let at = p.at;
-    let place = put_line(a.number, counted, reply, a.count, p.part, next, out, at);
-    Progress {
-        part: p.part,
-        device: next,
-        at: place,
-    }
+    let out = lines::print::out_of(a.number, act, reply, a.count);
+    told(a.number, out, p.part, next, into, p.at)
 }
 
 // A line's answer.
@@ -125,15 +104,17 @@ pub fn answer_line(
     p: Progress,
     eeprom: &mut [u8],
     id: &mut [u8],
-    out: &mut [u8],
+    into: &mut [u8],
 ) -> Progress
-    requires { ⌜ (length (now eeprom) ≡ eepromRoom) × (length (now id) ≡ idSize) × (p .at + answerRoom ≤ length (now out)) ⌝ }
-    ensures { λ r. ⌜ shownBy r (now (eeprom .exit)) (now (id .exit)) (now (out .exit)) ≡ shownIn (buffer (now (out .entry)) (p .at)) (lineAnswer (now (line .entry)) (setupOf (p .part) (p .device) (now (eeprom .entry)) (now (id .entry)))) ⌝ }
+    requires { ⌜ Lent (now eeprom) (now id) ⌝ }
+    requires { ⌜ p .at + answerRoom ≤ length (now into) ⌝ }
+    ensures { λ r. ⌜ shownBy r (now (eeprom .exit)) (now (id .exit)) (now (into .exit))
+        ≡ shownIn (buffer (now (into .entry)) (p .at)) (lineAnswer (now (line .entry)) (setupIn p (now (eeprom .entry)) (now (id .entry)))) ⌝ }
 {
-    let r = text::line::request(line);
+    let r = lines::line::request(line);
     match r {
-        Request::PartLine(n) => part_line(n, p, eeprom, id, out),
-        Request::ActLine(act, n) => act_line(act, n, p, eeprom, id, out),
-        Request::Bad => refused_line(7, p, out),
+        Request::PartLine(arg) => part_line(arg, p, eeprom, id, into),
+        Request::ActLine(act, arg) => act_line(act, arg, p, eeprom, id, into),
+        Request::Bad => refused_line(7, p, into),
     }
 }

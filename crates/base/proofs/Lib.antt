@@ -2,3 +2,4 @@ pub mod Tests
 pub mod Every
 pub mod BitLaws
 pub mod StoreLaws
+pub mod WaitLaws

@@ -1,4 +1,5 @@
--- Laws of a store under a set: how a loop builds it, its length, what a byte is after it, and a store into a part of a list.
+-- Laws of a store under a set: how a loop builds it, its length, what a byte is after it, a store into a part of a list, and how many
+-- places it changes.
 -- Assumes nothing.
 use mathlib.Core.Path.{_≡_, refl, sym, ap, subst, _∙_}
 use mathlib.Core.Bool.{Bool, true, false}
@@ -8,9 +9,10 @@ use native.Mathlib.Nat.{zero-add, suc-add, not-suc-le-zero, le-of-suc-le-suc}
 use native.Mathlib.Numerals.{add-one}
 use native.Mathlib.Omega.{arith}
 use lib.ListN.{length, getD, set, take, replicate, length-set}
-use lib.Seq.{set-append-left}
-use Rattle.base.specs.Words.{pick, bit, storeUnder}
-use Rattle.base.proofs.Tests.{pick-case}
+use borrow.Author.Tests.{eq-eqb, ne-eqb}
+use lib.Seq.{getD-set-other, set-append-left}
+use Rattle.base.specs.Words.{pick, bit, members, storeUnder, changes}
+use Rattle.base.proofs.Tests.{by-cases, pick-case}
 
 pub store-none : (m : List ℕ) (base s : ℕ) (bytes : List ℕ) → storeUnder m base s bytes 0 ≡ m
 unfolding storeUnder
@@ -76,6 +78,45 @@ store-right x y s bytes (suc n) =
     (ap (λ (l : List ℕ). set l (length x + n) (getD bytes n 0)) e ∙ set-right x r n (getD bytes n 0)
     ∙ ap (λ (k : ℕ). x ++ set r k (getD bytes n 0)) (sym (zero-add n)))
     e
+
+-- At a place beyond the offsets nothing is stored.
+store-beyond : (m : List ℕ) (base s : ℕ) (bytes : List ℕ) (n p : ℕ) → base + n ≤ p → getD (storeUnder m base s bytes n) p 0 ≡ getD m p 0
+unfolding storeUnder
+store-beyond m base s bytes zero p h = refl
+store-beyond m base s bytes (suc n) p h =
+    pick-case (λ (l : List ℕ). getD l p 0 ≡ getD m p 0) (bit s n)
+    (getD-set-other (storeUnder m base s bytes n) (base + n) p (getD bytes n 0) 0 (λ e. omega arith) ∙ store-beyond m base s bytes n p (omega arith))
+    (store-beyond m base s bytes n p (omega arith))
+
+-- One place more differs where another value is put than the one that stood there.
+changes-none : (m : List ℕ) → changes m m ≡ 0
+unfolding changes
+changes-none [] = refl
+changes-none (x ∷ m) = rw (eq-eqb x x refl) (omega (arith, changes-none m))
+
+changes-set :
+    (m l : List ℕ) (i v : ℕ) → i < length m → length l ≡ length m → getD l i 0 ≡ getD m i 0 → (v ≡ getD m i 0 → ⊥) → changes m (set l i v) ≡ changes m l + 1
+unfolding changes
+changes-set [] l i v h q e d = absurd (omega arith)
+changes-set (x ∷ m) [] i v h q e d = absurd (omega arith)
+changes-set (x ∷ m) (y ∷ l) zero v h q e d =
+    rw (ne-eqb x v (λ t. d (sym t)), eq-eqb x y (sym e)) (omega arith)
+changes-set (x ∷ m) (y ∷ l) (suc i) v h q e d = omega (arith, changes-set m l i v (omega arith) (omega arith) e d)
+
+-- So many places differ as there are offsets in the set, where each byte is another than the one at its place.
+pub store-changes :
+    (m : List ℕ) (base s : ℕ) (bytes : List ℕ) (n : ℕ) → base + n ≤ length m → ((k : ℕ) → k < n → getD bytes k 0 ≡ getD m (base + k) 0 → ⊥)
+    → changes m (storeUnder m base s bytes n) ≡ members s n
+unfolding storeUnder members
+store-changes m base s bytes zero h d = changes-none m
+store-changes m base s bytes (suc n) h d =
+    let e = store-changes m base s bytes n (omega arith) (λ k l. d k (omega arith)) in
+    by-cases (bit s n)
+    (λ t.
+    rw t
+    (changes-set m (storeUnder m base s bytes n) (base + n) (getD bytes n 0) (omega arith) (store-length m base s bytes n)
+    (store-beyond m base s bytes n (base + n) (omega arith)) (d n (omega arith)) ∙ ap (λ (k : ℕ). k + 1) e))
+    (λ t. rw t (e ∙ omega arith))
 
 pub take-replicate : (k n v : ℕ) → k ≤ n → take k (replicate n v) ≡ replicate k v
 take-replicate zero n v h = refl

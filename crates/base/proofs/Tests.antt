@@ -2,11 +2,12 @@
 -- Assumes nothing.
 use mathlib.Core.Path.{_≡_, refl}
 use mathlib.Core.Bool.{Bool, true, false, _&&_, _||_, Bool·beq, false≢true, true≢false}
-use mathlib.Core.Logic.{_⊎_, inl, inr}
+use mathlib.Core.Logic.{_⊎_, inl, inr, ⊎-elim}
 use Prim.Native.Nat.{ℕ, _<_}
 use native.Mathlib.Omega.{arith}
 use lib.Dec.{T}
-use Rattle.base.specs.Words.{pick, flag}
+use mathlib.Core.List.{List, [], _∷_}
+use Rattle.base.specs.Words.{pick, flag, firstOf, allOf, anyAfter, anyOf}
 
 -- by the two cases of a test
 pub by-cases : {P : Type 0} (b : Bool) → (b ≡ true → P) → (b ≡ false → P) → P
@@ -30,6 +31,25 @@ pub pick-when : {A : Type 0} (P : A → Type 0) (t : Bool) {a b : A} → (t ≡ 
 pick-when P true p q = p refl
 pick-when P false p q = q refl
 
+-- the parts of a conjunction that holds
+pub both-left : (a b : Bool) → (a && b) ≡ true → a ≡ true
+both-left true b e = refl
+both-left false b e = e
+
+pub both-right : (a b : Bool) → (a && b) ≡ true → b ≡ true
+both-right true b e = e
+both-right false b e = absurd (false≢true e)
+
+-- What holds of the value of each pair whose key passes, and of the last value, holds of the first match. That the table is good is one computed
+-- test, so that a row more is no line here.
+pub first-when :
+    {K A : Type 0} (P : A → Type 0) (test : K → Bool) (good : K × A → Bool) (cs : List (K × A)) {last : A} → allOf good cs ≡ true
+    → ((c : K × A) → good c ≡ true → test (c .0) ≡ true → P (c .1)) → P last → P (firstOf test cs last)
+first-when P test good [] g p q = q
+first-when P test good (c ∷ cs) g p q =
+    pick-when P (test (c .0)) (λ t. p c (both-left (good c) (allOf good cs) g) t)
+    (λ t. first-when P test good cs (both-right (good c) (allOf good cs) g) p q)
+
 -- a choice between equals
 pub pick-same : {A : Type 0} (t : Bool) (a : A) → pick t a a ≡ a
 pick-same true a = refl
@@ -45,15 +65,7 @@ pub row : (t : Bool) (k x : ℕ) → 0 < k → pick t k x ≡ 0 → (t ≡ false
 row true k x h e = absurd (omega arith)
 row false k x h e = (refl, e)
 
--- the parts of a conjunction that holds
-pub both-left : (a b : Bool) → (a && b) ≡ true → a ≡ true
-both-left true b e = refl
-both-left false b e = e
-
-pub both-right : (a b : Bool) → (a && b) ≡ true → b ≡ true
-both-right true b e = e
-both-right false b e = absurd (false≢true e)
-
+-- a conjunction of what holds
 pub both-true : {a b : Bool} → a ≡ true → b ≡ true → (a && b) ≡ true
 both-true p q = rw (p, q)
 
@@ -96,3 +108,31 @@ same→eq false false t = refl
 pub flag-below : (t : Bool) → flag t < 2
 flag-below true = omega arith
 flag-below false = omega arith
+
+-- a list of tests of which none holds, and what each test of a list gives where it holds
+abbrev pub None : List Bool → Type 0
+None [] = Unit {0}
+None (t ∷ ts) = (t ≡ false) × None ts
+
+abbrev pub Given : Type 0 → List Bool → Type 0
+Given P [] = Unit {0}
+Given P (t ∷ ts) = (t ≡ true → P) × Given P ts
+
+none-after : (t : Bool) (ts : List Bool) → anyAfter t ts ≡ false → None (t ∷ ts)
+none-after t [] e = (e, tt)
+none-after t (u ∷ us) e =
+    let n = none-after (t || u) us e in
+    (neither-left t u (n .0), (neither-right t u (n .0), n .1))
+
+-- the one law of a list of tests: none holds, or one gives what it gives
+pub none-holds : (ts : List Bool) → anyOf ts ≡ false → None ts
+none-holds [] e = tt
+none-holds (t ∷ ts) e = none-after t ts e
+
+some-after : {P : Type 0} (t : Bool) (ts : List Bool) → anyAfter t ts ≡ true → Given P (t ∷ ts) → P
+some-after t [] e g = g .0 e
+some-after t (u ∷ us) e g = some-after (t || u) us e (λ b. ⊎-elim (g .0) (g .1 .0) (either t u b), g .1 .1)
+
+pub some-holds : {P : Type 0} (ts : List Bool) → anyOf ts ≡ true → Given P ts → P
+some-holds [] e g = absurd (false≢true e)
+some-holds (t ∷ ts) e g = some-after t ts e g

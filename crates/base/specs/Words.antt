@@ -2,8 +2,8 @@
 -- They are no rule of any chip: no number of one stands here.
 -- Assumes nothing.
 use Prim.Native.Nat.{ℕ, zero, suc, _+_, _*_, _/_, _%_, _^_}
-use mathlib.Core.Bool.{Bool, true, false, _&&_}
-use mathlib.Core.List.{List}
+use mathlib.Core.Bool.{Bool, true, false, not, _&&_, _||_}
+use mathlib.Core.List.{List, [], _∷_}
 use lib.Dec.{leb, eqb}
 use lib.ListN.{getD, set}
 
@@ -46,3 +46,28 @@ unfoldable pub storeUnder : List ℕ → ℕ → ℕ → List ℕ → ℕ → Li
 storeUnder m base s bytes zero = m
 storeUnder m base s bytes (suc n) =
     pick (bit s n) (set (storeUnder m base s bytes n) (base + n) (getD bytes n 0)) (storeUnder m base s bytes n)
+
+-- at how many places a list differs from another of its length
+unfoldable pub changes : List ℕ → List ℕ → ℕ
+changes [] l = 0
+changes (x ∷ m) [] = 0
+changes (x ∷ m) (y ∷ l) = flag (not (eqb x y)) + changes m l
+
+-- of pairs of a key and its value, the value of the first whose key passes the test, and the last value where none does
+abbrev pub firstOf : {K A : Type 0} → (K → Bool) → List (K × A) → A → A
+firstOf test [] last = last
+firstOf test (c ∷ cs) last = pick (test (c .0)) (c .1) (firstOf test cs last)
+
+-- every member of a list passes the test
+abbrev pub allOf : {A : Type 0} → (A → Bool) → List A → Bool
+allOf test [] = true
+allOf test (x ∷ xs) = test x && allOf test xs
+
+-- some test of a list holds; they are joined from the left
+abbrev pub anyAfter : Bool → List Bool → Bool
+anyAfter t [] = t
+anyAfter t (u ∷ us) = anyAfter (t || u) us
+
+abbrev pub anyOf : List Bool → Bool
+anyOf [] = false
+anyOf (t ∷ ts) = anyAfter t ts

@@ -1,6 +1,6 @@
--- Laws of one BCD field: what a valid value is, and what is known of a field after an advance.
+-- Laws of one BCD field: what a valid value is, and what is known of a field after its step.
 -- Assumes nothing.
-use mathlib.Core.Path.{_≡_, refl}
+use mathlib.Core.Path.{_≡_}
 use mathlib.Core.Bool.{Bool, true, false, _&&_}
 use Prim.Native.Nat.{ℕ, _+_, _/_, _%_, _<_, _≤_}
 use native.Mathlib.Omega.{arith}
@@ -11,7 +11,7 @@ use Rattle.base.proofs.Tests.{by-cases, both-left, both-right, pick-when}
 use Rattle.calendar.specs.declared.Step.{Step}
 use Rattle.calendar.specs.Field.{validField, nextField, onCarry}
 
--- the two digits, the first and the last of a valid value
+-- K7. What is known of a valid value: its two digits, and where it lies.
 pub record Valid (first last x : ℕ) : Type 0 where
   pub tens : x / 16 ≤ 9
   pub units : x % 16 ≤ 9
@@ -30,13 +30,13 @@ valid-is first last x e =
       high = leb-true x last (both-right (leb first x) (leb x last) r);
     }
 
--- a value between them with decimal digits is valid
+-- K7. Nothing more is asked of one.
 pub is-valid : (first last x : ℕ) → Valid first last x → validField first last x ≡ true
 unfolding validField
 is-valid first last x v =
     simp (le-leb (x / 16) 9 (v .tens), le-leb (x % 16) 9 (v .units), le-leb first x (v .low), le-leb x last (v .high))
 
--- The next of a value with decimal digits below another such is at most that other.
+-- one more than a BCD value below another is at most that other
 next-at-most :
     (x y : ℕ) → x / 16 ≤ 9 → x % 16 ≤ 9 → y / 16 ≤ 9 → y % 16 ≤ 9 → x < y → bcdByte (bcdValue x + 1) ≤ y
 next-at-most x y a b c d h =
@@ -50,7 +50,7 @@ next-at-most x y a b c d h =
     let q : (bcdValue x + 1) / 10 ≡ x / 16 = omega arith in
     omega arith)
 
--- After an advance a field whose first and last are valid is valid, whatever it was before.
+-- K8. After its step a field is valid, whatever it was before, if its own limits are.
 pub next-valid :
     (first last x : ℕ) → Valid first last first → Valid first last last → Valid first last (nextField first last x .value)
 unfolding nextField
@@ -67,26 +67,12 @@ next-valid first last x f l =
     })
     (λ e. f)
 
--- the successor is a byte
-pub next-byte : (first last x : ℕ) → first < 256 → nextField first last x .value < 256
-unfolding nextField
-next-byte first last x f =
-    pick-when (λ (s : Step). s .value < 256) (validField first last x && ltb x last)
-    (λ e.
-    let v : Valid first last x = valid-is first last x (both-left (validField first last x) (ltb x last) e) in
-    omega arith)
-    (λ e. f)
+-- a field with such limits is then a byte
+pub next-byte :
+    (first last x : ℕ) → Valid first last first → Valid first last last → nextField first last x .value < 256
+next-byte first last x f l = let v = next-valid first last x f l in omega arith
 
 -- a field that may have moved is below a bound of both
 pub on-carry-below : (n : ℕ) (carry : Bool) (x : ℕ) (s : Step) → x < n → s .value < n → onCarry carry x s .value < n
 on-carry-below n true x s p q = q
 on-carry-below n false x s p q = p
-
--- only a carry carries on
-pub on-carry-back : (carry : Bool) (x : ℕ) (s : Step) → onCarry carry x s .carry ≡ true → carry ≡ true
-on-carry-back true x s e = refl
-on-carry-back false x s e = e
-
--- without one the field stays
-pub on-carry-stays : (carry : Bool) (x : ℕ) (s : Step) → carry ≡ false → onCarry carry x s ≡ record { value = x; carry = false }
-on-carry-stays carry x s e = simp e

@@ -1,26 +1,40 @@
--- What is known of the eight stored bytes after an advance: no bit outside the register masks, control bits that stay, and how far
+-- What is known of the eight stored bytes after an advance: control bits that stay, no bit outside the register masks, and how far
 -- the carry went. Stated over `advanced`, so that no reader above the calendar opens it.
 -- Assumes nothing.
-use mathlib.Core.Path.{_≡_, refl, ap, _∙_}
+use mathlib.Core.Path.{_≡_, refl, ap}
 use mathlib.Core.Bool.{Bool, true, false}
-use Prim.Native.Nat.{ℕ, _/_, _%_, _<_}
+use mathlib.Core.List.{List, [], _∷_}
+use Prim.Native.Nat.{ℕ, _-_, _/_, _%_, _<_, _^_}
 use native.Mathlib.Omega.{arith}
-use lib.Bits.{bitAnd}
+use lib.Bits.{bitAnd, and-le-r}
 use lib.Dec.{eqb}
-use Rattle.base.specs.Words.{pick, bit}
+use lib.ListN.{getD}
+use Rattle.base.specs.Words.{pick, every, bit}
+use Rattle.base.proofs.Every.{bound-below}
 use Rattle.base.proofs.BitLaws.{mask-below, below-mask}
 use Rattle.calendar.specs.declared.Step.{Step}
 use Rattle.calendar.specs.declared.Date.{Date}
 use Rattle.calendar.specs.declared.Time.{Time}
-use Rattle.calendar.specs.Field.{nextField, onCarry, beside, besideStep}
-use Rattle.calendar.specs.Clock.{hundredthsFirst, hundredthsLast, secondsFirst, secondsLast, nextSeconds, nextMinutes}
-use Rattle.calendar.specs.Hours.{hourFirst, hourLast, twelveHour, nextTwelve, nextHours}
-use Rattle.calendar.specs.Date.{yearFirst, yearLast, nextYear, monthStep, nextDate}
+use Rattle.calendar.specs.declared.Advanced.{Advanced}
+use Rattle.calendar.specs.Field.{nextIn, onCarry, beside, besideStep}
+use Rattle.calendar.specs.Clock.{hundredths, seconds}
+use Rattle.calendar.specs.Hours.{hours, twelveHour, nextTwelve, nextHours}
+use Rattle.calendar.specs.Date.{years, monthStep, nextDate}
 use Rattle.calendar.specs.Time.{dateOf, withDate, onDay, hundredthsStep, secondsStep, minutesStep, hoursStep, clockAdvanced, advanced}
-use Rattle.calendar.proofs.FieldLaws.{next-byte, on-carry-below, on-carry-back, on-carry-stays}
+use Rattle.calendar.proofs.FieldLaws.{next-byte, on-carry-below}
 
--- Control bits. What stands above a field in its register stays: above bits 6:0 of seconds and minutes, 5:0 of hours, 2:0 of the day,
--- 5:0 of the date, 4:0 of the month.
+-- K9. What an advance leaves of each byte: what stands above its field. Hundredths and years fill their bytes, and stay bytes.
+pub record Control (t u : Time) : Type 0 where
+  pub hundredths : u .hundredths < 256
+  pub seconds : u .seconds / 128 ≡ t .seconds / 128
+  pub minutes : u .minutes / 128 ≡ t .minutes / 128
+  pub hours : u .hours / 64 ≡ t .hours / 64
+  pub day : u .day / 8 ≡ t .day / 8
+  pub date : u .date / 64 ≡ t .date / 64
+  pub month : u .month / 32 ≡ t .month / 32
+  pub year : t .year < 256 → u .year < 256
+
+-- a field that moved beside its control bits, or stayed
 on-carry-beside :
     (w : ℕ) (carry : Bool) (b : ℕ) (s : Step)
     → beside w b (s .value) / w ≡ b / w
@@ -28,250 +42,177 @@ on-carry-beside :
 on-carry-beside w true b s e = e
 on-carry-beside w false b s e = refl
 
-on-day-clock :
-    (carry : Bool) (t : Time)
-    → (onDay carry t .hundredths ≡ t .hundredths)
-    × (onDay carry t .seconds ≡ t .seconds)
-    × (onDay carry t .minutes ≡ t .minutes)
-    × (onDay carry t .hours ≡ t .hours)
-unfolding onDay withDate
-on-day-clock true t = (refl, refl, refl, refl)
-on-day-clock false t = (refl, refl, refl, refl)
-
-on-day-beside :
-    (carry : Bool) (t : Time)
-    → (onDay carry t .day / 8 ≡ t .day / 8) × (onDay carry t .date / 64 ≡ t .date / 64) × (onDay carry t .month / 32 ≡ t .month / 32)
-unfolding onDay withDate
-on-day-beside true t = (omega arith, omega arith, omega arith)
-on-day-beside false t = (refl, refl, refl)
-
-pub seconds-control : (t : Time) → advanced t .time .seconds / 128 ≡ t .seconds / 128
-unfolding advanced
-seconds-control t =
-    ap (λ (b : ℕ). b / 128) (on-day-clock (hoursStep t .carry) (clockAdvanced t) .1)
-    ∙ on-carry-beside 128 (hundredthsStep t .carry) (t .seconds) (nextField secondsFirst secondsLast (t .seconds % 128)) (omega arith)
-
-pub minutes-control : (t : Time) → advanced t .time .minutes / 128 ≡ t .minutes / 128
-unfolding advanced
-minutes-control t =
-    ap (λ (b : ℕ). b / 128) (on-day-clock (hoursStep t .carry) (clockAdvanced t) .2)
-    ∙ on-carry-beside 128 (secondsStep t .carry) (t .minutes) (nextField secondsFirst secondsLast (t .minutes % 128)) (omega arith)
-
-pub hours-control : (t : Time) → advanced t .time .hours / 64 ≡ t .hours / 64
-unfolding advanced nextHours
-hours-control t =
+-- the clock's part of an advance
+clock-control : (t : Time) → Control t (clockAdvanced t)
+unfolding nextHours
+clock-control t =
     let b : ℕ = t .hours in
-    let s : Step = pick (twelveHour b) (nextTwelve (b % 64)) (nextField hourFirst hourLast (b % 64)) in
-    ap (λ (n : ℕ). n / 64) (on-day-clock (hoursStep t .carry) (clockAdvanced t) .3)
-    ∙ on-carry-beside 64 (minutesStep t .carry) b s (omega arith)
-
-pub day-control : (t : Time) → advanced t .time .day / 8 ≡ t .day / 8
-unfolding advanced
-day-control t = on-day-beside (hoursStep t .carry) (clockAdvanced t) .0
-
-pub date-control : (t : Time) → advanced t .time .date / 64 ≡ t .date / 64
-unfolding advanced
-date-control t = on-day-beside (hoursStep t .carry) (clockAdvanced t) .1
-
-pub month-control : (t : Time) → advanced t .time .month / 32 ≡ t .month / 32
-unfolding advanced
-month-control t = on-day-beside (hoursStep t .carry) (clockAdvanced t) .2
-
--- the bits that have names: ST, CALSGN and 12/24, VBAT and VBATEN
-pub st-stays : (t : Time) → bit (advanced t .time .seconds) 7 ≡ bit (t .seconds) 7
-st-stays t = ap (λ (n : ℕ). eqb (n % 2) 1) (seconds-control t)
-
-pub calsgn-stays : (t : Time) → bit (advanced t .time .hours) 7 ≡ bit (t .hours) 7
-calsgn-stays t =
-    let e : advanced t .time .hours / 128 ≡ t .hours / 128 = omega (arith, hours-control t) in
-    ap (λ (n : ℕ). eqb (n % 2) 1) e
-
-pub format-stays : (t : Time) → bit (advanced t .time .hours) 6 ≡ bit (t .hours) 6
-format-stays t = ap (λ (n : ℕ). eqb (n % 2) 1) (hours-control t)
-
-pub vbat-stays : (t : Time) → bit (advanced t .time .day) 4 ≡ bit (t .day) 4
-vbat-stays t =
-    let e : advanced t .time .day / 16 ≡ t .day / 16 = omega (arith, day-control t) in
-    ap (λ (n : ℕ). eqb (n % 2) 1) e
-
-pub vbaten-stays : (t : Time) → bit (advanced t .time .day) 3 ≡ bit (t .day) 3
-vbaten-stays t = ap (λ (n : ℕ). eqb (n % 2) 1) (day-control t)
-
--- Each byte has no bit outside its register's mask: FF FF 7F FF 1F 3F 1F FF.
-pub record TimeFits (t : Time) : Type 0 where
-  pub hundredths : t .hundredths < 256
-  pub seconds : t .seconds < 256
-  pub minutes : t .minutes < 128
-  pub hours : t .hours < 256
-  pub day : t .day < 32
-  pub date : t .date < 64
-  pub month : t .month < 32
-  pub year : t .year < 256
-
--- Each is a byte.
-pub record TimeBytes (t : Time) : Type 0 where
-  pub hundredths : t .hundredths < 256
-  pub seconds : t .seconds < 256
-  pub minutes : t .minutes < 256
-  pub hours : t .hours < 256
-  pub day : t .day < 256
-  pub date : t .date < 256
-  pub month : t .month < 256
-  pub year : t .year < 256
-
--- No bit outside the register masks: what stands above a field is no more than it was, and hundredths and years are bytes.
-hundredths-byte : (t : Time) → advanced t .time .hundredths < 256
-unfolding advanced
-hundredths-byte t =
-    rw (on-day-clock (hoursStep t .carry) (clockAdvanced t) .0) (next-byte hundredthsFirst hundredthsLast (t .hundredths) (omega arith))
+    let s : Step = pick (twelveHour b) (nextTwelve (b % 64)) (nextIn hours (b % 64)) in
+    record {
+      hundredths = next-byte (hundredths .first) (hundredths .last) (t .hundredths) (omega arith) (omega arith);
+      seconds = on-carry-beside 128 (hundredthsStep t .carry) (t .seconds) (nextIn seconds (t .seconds % 128)) (omega arith);
+      minutes = on-carry-beside 128 (secondsStep t .carry) (t .minutes) (nextIn seconds (t .minutes % 128)) (omega arith);
+      hours = on-carry-beside 64 (minutesStep t .carry) b s (omega arith);
+      day = refl;
+      date = refl;
+      month = refl;
+      year = λ h. h;
+    }
 
 next-year-byte : (d : Date) → d .year < 256 → nextDate d .date .year < 256
 unfolding nextDate
 next-year-byte d h =
-    on-carry-below 256 (monthStep d .carry) (d .year) (nextYear (d .year)) h (next-byte yearFirst yearLast (d .year) (omega arith))
+    on-carry-below 256 (monthStep d .carry) (d .year) (nextIn years (d .year)) h
+    (next-byte (years .first) (years .last) (d .year) (omega arith) (omega arith))
 
-on-day-year : (carry : Bool) (t : Time) → t .year < 256 → onDay carry t .year < 256
+-- the date's part
+day-control : (carry : Bool) (t u : Time) → Control t u → Control t (onDay carry u)
 unfolding onDay withDate dateOf
-on-day-year true t h = next-year-byte (dateOf t) h
-on-day-year false t h = h
-
-year-byte : (t : Time) → t .year < 256 → advanced t .time .year < 256
-unfolding advanced
-year-byte t h = on-day-year (hoursStep t .carry) (clockAdvanced t) h
-
-pub advanced-fits : (t : Time) → TimeFits t → TimeFits (advanced t .time)
-advanced-fits t f =
+day-control true t u c =
     record {
-      hundredths = hundredths-byte t;
-      seconds = omega (arith, seconds-control t);
-      minutes = omega (arith, minutes-control t);
-      hours = omega (arith, hours-control t);
-      day = omega (arith, day-control t);
-      date = omega (arith, date-control t);
-      month = omega (arith, month-control t);
-      year = year-byte t (f .year);
+      hundredths = c .hundredths;
+      seconds = c .seconds;
+      minutes = c .minutes;
+      hours = c .hours;
+      day = omega (arith, c .day);
+      date = omega (arith, c .date);
+      month = omega (arith, c .month);
+      year = λ h. next-year-byte (dateOf u) (c .year h);
+    }
+day-control false t u c = c
+
+pub control-stays : (t : Time) → Control t (advanced t .time)
+unfolding advanced
+control-stays t = day-control (hoursStep t .carry) t (clockAdvanced t) (clock-control t)
+
+-- K9, E23. The control bits that have names: ST, CALSGN, 12/24, VBAT, VBATEN.
+same-bit : (m n : ℕ) → m ≡ n → eqb (m % 2) 1 ≡ eqb (n % 2) 1
+same-bit m n e = ap (λ (k : ℕ). eqb (k % 2) 1) e
+
+pub st-stays : (t : Time) → bit (advanced t .time .seconds) 7 ≡ bit (t .seconds) 7
+st-stays t = same-bit _ _ (control-stays t .seconds)
+
+pub calsgn-stays : (t : Time) → bit (advanced t .time .hours) 7 ≡ bit (t .hours) 7
+calsgn-stays t = same-bit (advanced t .time .hours / 128) (t .hours / 128) (omega (arith, control-stays t .hours))
+
+pub format-stays : (t : Time) → bit (advanced t .time .hours) 6 ≡ bit (t .hours) 6
+format-stays t = same-bit _ _ (control-stays t .hours)
+
+pub vbat-stays : (t : Time) → bit (advanced t .time .day) 4 ≡ bit (t .day) 4
+vbat-stays t = same-bit (advanced t .time .day / 16) (t .day / 16) (omega (arith, control-stays t .day))
+
+pub vbaten-stays : (t : Time) → bit (advanced t .time .day) 3 ≡ bit (t .day) 3
+vbaten-stays t = same-bit _ _ (control-stays t .day)
+
+-- A fact of each byte and of the register that holds it.
+pub record TimeEach (P : ℕ → ℕ → Type 0) (t : Time) : Type 0 where
+  pub hundredths : P 0x00 (t .hundredths)
+  pub seconds : P 0x01 (t .seconds)
+  pub minutes : P 0x02 (t .minutes)
+  pub hours : P 0x03 (t .hours)
+  pub day : P 0x04 (t .day)
+  pub date : P 0x05 (t .date)
+  pub month : P 0x06 (t .month)
+  pub year : P 0x07 (t .year)
+
+-- F13. How many low bits the mask of a time register has: FF FF 7F FF 1F 3F 1F FF.
+abbrev kept-bits : ℕ → ℕ
+kept-bits k = getD (8 ∷ 8 ∷ 7 ∷ 8 ∷ 5 ∷ 6 ∷ 5 ∷ 8 ∷ []) k 0
+
+-- a number with no bit above those of the mask; one that the mask leaves as it is
+abbrev Fits : ℕ → ℕ → Type 0
+Fits k v = v < 2 ^ kept-bits k
+
+abbrev Masked : ℕ → ℕ → Type 0
+Masked k v = bitAnd v (2 ^ kept-bits k - 1) ≡ v
+
+abbrev pub TimeFits : Time → Type 0
+TimeFits t = TimeEach Fits t
+
+abbrev pub TimeMasked : Time → Type 0
+TimeMasked t = TimeEach Masked t
+
+-- a law of one byte is a law of the eight
+each-both :
+    {P Q R : ℕ → ℕ → Type 0} (t : Time) → ((k : ℕ) → kept-bits k < 9 → (v : ℕ) → P k v → Q k v → R k v)
+    → TimeEach P t → TimeEach Q t → TimeEach R t
+each-both t law p q =
+    record {
+      hundredths = law 0x00 (omega arith) (t .hundredths) (p .hundredths) (q .hundredths);
+      seconds = law 0x01 (omega arith) (t .seconds) (p .seconds) (q .seconds);
+      minutes = law 0x02 (omega arith) (t .minutes) (p .minutes) (q .minutes);
+      hours = law 0x03 (omega arith) (t .hours) (p .hours) (q .hours);
+      day = law 0x04 (omega arith) (t .day) (p .day) (q .day);
+      date = law 0x05 (omega arith) (t .date) (p .date) (q .date);
+      month = law 0x06 (omega arith) (t .month) (p .month) (q .month);
+      year = law 0x07 (omega arith) (t .year) (p .year) (q .year);
+    }
+
+-- what holds of the byte at each register holds of the eight
+abbrev pub timeBytes : Time → List ℕ
+timeBytes t = t .hundredths ∷ t .seconds ∷ t .minutes ∷ t .hours ∷ t .day ∷ t .date ∷ t .month ∷ t .year ∷ []
+
+pub each-of : (P : ℕ → ℕ → Type 0) (t : Time) → ((k : ℕ) → k < 8 → P k (getD (timeBytes t) k 0)) → TimeEach P t
+each-of P t p =
+    record {
+      hundredths = p 0x00 (omega arith);
+      seconds = p 0x01 (omega arith);
+      minutes = p 0x02 (omega arith);
+      hours = p 0x03 (omega arith);
+      day = p 0x04 (omega arith);
+      date = p 0x05 (omega arith);
+      month = p 0x06 (omega arith);
+      year = p 0x07 (omega arith);
     }
 
 -- The bounds and the masks say the same of eight bytes.
-pub record TimeMasked (t : Time) : Type 0 where
-  pub hundredths : bitAnd (t .hundredths) 0xff ≡ t .hundredths
-  pub seconds : bitAnd (t .seconds) 0xff ≡ t .seconds
-  pub minutes : bitAnd (t .minutes) 0x7f ≡ t .minutes
-  pub hours : bitAnd (t .hours) 0xff ≡ t .hours
-  pub day : bitAnd (t .day) 0x1f ≡ t .day
-  pub date : bitAnd (t .date) 0x3f ≡ t .date
-  pub month : bitAnd (t .month) 0x1f ≡ t .month
-  pub year : bitAnd (t .year) 0xff ≡ t .year
+power-most : (n : ℕ) → n < 9 → 2 ^ n < 257
+unfolding every
+power-most n h = bound-below (λ (j : ℕ). 2 ^ j) 257 9 refl n h
 
-pub masked-fits : (t : Time) → TimeBytes t → TimeMasked t → TimeFits t
-masked-fits t b m =
+masked-fits : (t : Time) → TimeMasked t → TimeFits t
+masked-fits t m =
+    each-both t (λ k h v p q. mask-below (kept-bits k) h v (omega (arith, power-most (kept-bits k) h, and-le-r v (2 ^ kept-bits k - 1))) q) m m
+
+fits-byte : (n : ℕ) → n < 9 → (v : ℕ) → v < 2 ^ n → v < 256
+fits-byte n h v f = omega (arith, power-most n h)
+
+fits-masked : (t : Time) → TimeFits t → TimeMasked t
+fits-masked t f = each-both t (λ k h v p. below-mask (kept-bits k) h v (fits-byte (kept-bits k) h v p)) f f
+
+-- F13, K9. An advance sets no bit outside the masks: what stands above a field is no more than it was.
+advanced-fits : (t : Time) → TimeFits t → TimeFits (advanced t .time)
+advanced-fits t f =
+    let c : Control t (advanced t .time) = control-stays t in
     record {
-      hundredths = b .hundredths;
-      seconds = b .seconds;
-      minutes = mask-below 7 (omega arith) (t .minutes) (b .minutes) (m .minutes);
-      hours = b .hours;
-      day = mask-below 5 (omega arith) (t .day) (b .day) (m .day);
-      date = mask-below 6 (omega arith) (t .date) (b .date) (m .date);
-      month = mask-below 5 (omega arith) (t .month) (b .month) (m .month);
-      year = b .year;
+      hundredths = c .hundredths;
+      seconds = omega (arith, c .seconds);
+      minutes = omega (arith, c .minutes);
+      hours = omega (arith, c .hours);
+      day = omega (arith, c .day);
+      date = omega (arith, c .date);
+      month = omega (arith, c .month);
+      year = c .year (f .year);
     }
 
-pub fits-masked : (t : Time) → TimeFits t → TimeMasked t
-fits-masked t f =
-    record {
-      hundredths = below-mask 8 (omega arith) (t .hundredths) (omega arith) (f .hundredths);
-      seconds = below-mask 8 (omega arith) (t .seconds) (omega arith) (f .seconds);
-      minutes = below-mask 7 (omega arith) (t .minutes) (omega arith) (f .minutes);
-      hours = below-mask 8 (omega arith) (t .hours) (omega arith) (f .hours);
-      day = below-mask 5 (omega arith) (t .day) (omega arith) (f .day);
-      date = below-mask 6 (omega arith) (t .date) (omega arith) (f .date);
-      month = below-mask 5 (omega arith) (t .month) (omega arith) (f .month);
-      year = below-mask 8 (omega arith) (t .year) (omega arith) (f .year);
-    }
+pub advanced-masked : (t : Time) → TimeMasked t → TimeMasked (advanced t .time)
+advanced-masked t m = fits-masked (advanced t .time) (advanced-fits t (masked-fits t m))
 
--- How far the carry went: a field advances only where the one before it did.
-pub minutes-seconds : (t : Time) → advanced t .minutes ≡ true → advanced t .seconds ≡ true
-unfolding advanced
-minutes-seconds t e = on-carry-back (hundredthsStep t .carry) (t .seconds) (nextSeconds (t .seconds)) e
+-- K10. How far the carry went: a field that did not advance keeps its byte, and the next one did not advance either.
+pub record Kept (t : Time) (a : Advanced) : Type 0 where
+  pub seconds : a .seconds ≡ false → (a .time .seconds ≡ t .seconds) × (a .minutes ≡ false)
+  pub minutes : a .minutes ≡ false → (a .time .minutes ≡ t .minutes) × (a .hours ≡ false)
+  pub hours : a .hours ≡ false → (a .time .hours ≡ t .hours) × (a .days ≡ false)
+  pub days :
+      a .days ≡ false
+      → (a .time .day ≡ t .day) × (a .time .date ≡ t .date) × (a .time .month ≡ t .month) × (a .time .year ≡ t .year)
 
-pub hours-minutes : (t : Time) → advanced t .hours ≡ true → advanced t .minutes ≡ true
-unfolding advanced
-hours-minutes t e = on-carry-back (secondsStep t .carry) (t .minutes) (nextMinutes (t .minutes)) e
-
-pub days-hours : (t : Time) → advanced t .days ≡ true → advanced t .hours ≡ true
-unfolding advanced
-days-hours t e = on-carry-back (minutesStep t .carry) (t .hours) (nextHours (t .hours)) e
-
--- the same of a field that did not
-pub no-minutes : (t : Time) → advanced t .seconds ≡ false → advanced t .minutes ≡ false
-unfolding advanced
-no-minutes t e = ap (λ (s : Step). s .carry) (on-carry-stays (hundredthsStep t .carry) (t .seconds) (nextSeconds (t .seconds)) e)
-
-pub no-hours : (t : Time) → advanced t .minutes ≡ false → advanced t .hours ≡ false
-unfolding advanced
-no-hours t e = ap (λ (s : Step). s .carry) (on-carry-stays (secondsStep t .carry) (t .minutes) (nextMinutes (t .minutes)) e)
-
-pub no-days : (t : Time) → advanced t .hours ≡ false → advanced t .days ≡ false
-unfolding advanced
-no-days t e = ap (λ (s : Step). s .carry) (on-carry-stays (minutesStep t .carry) (t .hours) (nextHours (t .hours)) e)
-
--- A field that did not advance keeps its byte.
-pub seconds-stay : (t : Time) → advanced t .seconds ≡ false → advanced t .time .seconds ≡ t .seconds
-unfolding advanced
-seconds-stay t e =
-    on-day-clock (hoursStep t .carry) (clockAdvanced t) .1
-    ∙ ap (λ (s : Step). s .value) (on-carry-stays (hundredthsStep t .carry) (t .seconds) (nextSeconds (t .seconds)) e)
-
-pub minutes-stay : (t : Time) → advanced t .minutes ≡ false → advanced t .time .minutes ≡ t .minutes
-unfolding advanced
-minutes-stay t e =
-    on-day-clock (hoursStep t .carry) (clockAdvanced t) .2
-    ∙ ap (λ (s : Step). s .value) (on-carry-stays (secondsStep t .carry) (t .minutes) (nextMinutes (t .minutes)) e)
-
-pub hours-stay : (t : Time) → advanced t .hours ≡ false → advanced t .time .hours ≡ t .hours
-unfolding advanced
-hours-stay t e =
-    on-day-clock (hoursStep t .carry) (clockAdvanced t) .3
-    ∙ ap (λ (s : Step). s .value) (on-carry-stays (minutesStep t .carry) (t .hours) (nextHours (t .hours)) e)
-
--- the date whole
-pub days-stay :
-    (t : Time)
-    → advanced t .days ≡ false
-    → (advanced t .time .day ≡ t .day)
-    × (advanced t .time .date ≡ t .date)
-    × (advanced t .time .month ≡ t .month)
-    × (advanced t .time .year ≡ t .year)
+pub kept : (t : Time) → Kept t (advanced t)
 unfolding advanced onDay
-days-stay t e = (simp e, simp e, simp e, simp e)
-
--- What is left where the seconds did not advance: the hundredths alone.
-pub only-hundredths :
-    (t : Time)
-    → advanced t .seconds ≡ false
-    → advanced t .time
-    ≡ record {
-      hundredths = advanced t .time .hundredths;
-      seconds = t .seconds;
-      minutes = t .minutes;
-      hours = t .hours;
-      day = t .day;
-      date = t .date;
-      month = t .month;
-      year = t .year;
-    }
-only-hundredths t e =
-    let m : advanced t .minutes ≡ false = no-minutes t e in
-    let h : advanced t .hours ≡ false = no-hours t m in
-    let d = days-stay t (no-days t h) in
-    λ i.
+kept t =
     record {
-      hundredths = advanced t .time .hundredths;
-      seconds = seconds-stay t e i;
-      minutes = minutes-stay t m i;
-      hours = hours-stay t h i;
-      day = d .0 i;
-      date = d .1 i;
-      month = d .2 i;
-      year = d .3 i;
+      seconds = λ e. (simp e, simp e);
+      minutes = λ e. (simp e, simp e);
+      hours = λ e. (simp e, simp e);
+      days = λ e. (simp e, simp e, simp e, simp e);
     }

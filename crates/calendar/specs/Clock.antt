@@ -1,44 +1,38 @@
--- The stored bytes of hundredths (00h), seconds (01h) and minutes (02h): valid, first, next. The field of seconds and of minutes is
--- bits 6:0; ST (bit 7 of 01h) and bit 7 of 02h stand beside it and stay. The hours are not here: they have two formats.
+-- The stored bytes of hundredths (00h), seconds (01h) and minutes (02h): valid, first, next. The hours are not here: they have two
+-- formats.
 -- Assumes nothing.
 use Prim.Native.Nat.{ℕ, _%_}
 use mathlib.Core.Bool.{Bool}
 use Rattle.calendar.specs.declared.Step.{Step}
-use Rattle.calendar.specs.Field.{validField, nextField, beside, besideStep}
+use Rattle.calendar.specs.Field.{Limits, limits, validIn, nextIn, beside, besideStep}
 
--- Hundredths are 00 to 99, all eight bits.
-abbrev pub hundredthsFirst : ℕ
-hundredthsFirst = 0x00
-
-abbrev pub hundredthsLast : ℕ
-hundredthsLast = 0x99
+-- K7, K8. Hundredths are 00 to 99, in all eight bits.
+abbrev pub hundredths : Limits
+hundredths = limits 0x00 0x99
 
 abbrev pub validHundredths : ℕ → Bool
-validHundredths b = validField hundredthsFirst hundredthsLast b
+validHundredths b = validIn hundredths b
 
 abbrev pub firstHundredths : ℕ → ℕ
-firstHundredths b = hundredthsFirst
+firstHundredths b = hundredths .first
 
 abbrev pub nextHundredths : ℕ → Step
-nextHundredths b = nextField hundredthsFirst hundredthsLast b
+nextHundredths b = nextIn hundredths b
 
--- Seconds are 00 to 59, bits 6:0.
-abbrev pub secondsFirst : ℕ
-secondsFirst = 0x00
-
-abbrev pub secondsLast : ℕ
-secondsLast = 0x59
+-- K7, K8, K9, E9. Seconds are 00 to 59, in bits 6:0; bit 7, ST, stays.
+abbrev pub seconds : Limits
+seconds = limits 0x00 0x59
 
 abbrev pub validSeconds : ℕ → Bool
-validSeconds b = validField secondsFirst secondsLast (b % 128)
+validSeconds b = validIn seconds (b % 128)
 
 abbrev pub firstSeconds : ℕ → ℕ
-firstSeconds b = beside 128 b secondsFirst
+firstSeconds b = beside 128 b (seconds .first)
 
 abbrev pub nextSeconds : ℕ → Step
-nextSeconds b = besideStep 128 b (nextField secondsFirst secondsLast (b % 128))
+nextSeconds b = besideStep 128 b (nextIn seconds (b % 128))
 
--- Minutes are as seconds.
+-- Minutes are as seconds; bit 7 of 02h is no bit of the chip, and stays too.
 abbrev pub validMinutes : ℕ → Bool
 validMinutes b = validSeconds b
 

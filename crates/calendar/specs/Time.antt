@@ -1,5 +1,5 @@
--- The eight stored time bytes, 00h to 07h with their control bits: the date in them, the step to the next eight, and how far it carried.
--- It is one advance of the hundredths; at which tick that happens is not said here.
+-- C6. What the calendar promises: the eight time bytes, 00h to 07h with their control bits, after one advance of the hundredths,
+-- and how far it carried. At which tick the hundredths advance is not said here.
 -- Assumes nothing.
 use Prim.Native.Nat.{_%_}
 use mathlib.Core.Bool.{Bool}
@@ -13,11 +13,11 @@ use Rattle.calendar.specs.Clock.{nextHundredths, nextSeconds, nextMinute
 use Rattle.calendar.specs.Hours.{nextHours}
 use Rattle.calendar.specs.Date.{nextDate}
 
--- The bare fields in 04h to 07h: day is bits 2:0 of 04h, date bits 5:0, month bits 4:0, year all eight bits.
+-- The bare fields of 04h to 07h: the day is bits 2:0, the date bits 5:0, the month bits 4:0, the year all eight.
 unfoldable pub dateOf : Time → Date
 dateOf t = record { day = t .day % 8; date = t .date % 64; month = t .month % 32; year = t .year }
 
--- The same registers with another date in their fields. Control bits beside a field stay: VBAT and VBATEN stand beside the day.
+-- K9. The same registers with another date in their fields. What stands beside a field stays: VBAT and VBATEN beside the day.
 unfoldable pub withDate : Time → Date → Time
 withDate t d =
     record {
@@ -31,12 +31,11 @@ withDate t d =
       year = d .year;
     }
 
--- The date in the registers moves only where the hours carried.
+-- K10. The date in the registers moves only where the hours carried.
 unfoldable pub onDay : Bool → Time → Time
 onDay carry t = pick carry (withDate t (nextDate (dateOf t) .date)) t
 
--- Document 01, "Calendar and ticks": Order: hundredths, seconds, minutes, hours, then day and date together, month, year. Hundredths
--- always advance; each other field where the one before it carried.
+-- K10. The clock's fields, in the order of their carries. Hundredths always advance; each other field where the one before it carried.
 abbrev pub hundredthsStep : Time → Step
 hundredthsStep t = nextHundredths (t .hundredths)
 
@@ -49,7 +48,7 @@ minutesStep t = onCarry (secondsStep t .carry) (t .minutes) (nextMinutes (t .min
 abbrev pub hoursStep : Time → Step
 hoursStep t = onCarry (minutesStep t .carry) (t .hours) (nextHours (t .hours))
 
--- The registers after these four, before the date.
+-- the registers after these four, before the date
 abbrev pub clockAdvanced : Time → Time
 clockAdvanced t =
     record {
@@ -63,7 +62,7 @@ clockAdvanced t =
       year = t .year;
     }
 
--- The next eight bytes, and which fields took a value.
+-- K10, E3, E4, E5. The next eight bytes, and which fields took a value.
 unfoldable pub advanced : Time → Advanced
 advanced t =
     record {

@@ -1,4 +1,4 @@
-// The calendar: BCD fields and dates, a field's successor and its carry, the date's and the time's successor.
+// C6. The calendar: BCD fields and dates, the step of a field with its carry, of a date and of the time registers.
 // Every public function answers, for every byte, valid or not, what its definition in specs/ says.
 ghost use mathlib.Core.Path.{_≡_};
 ghost use Prim.Native.Nat.{_<_};
@@ -12,7 +12,7 @@ ghost use Rattle.calendar.specs.Date.{validDay, validDate, validMonth, v
 ghost use Rattle.calendar.specs.Date.{leapYear, monthLength, nextDate};
 ghost use Rattle.calendar.specs.Time.{dateOf, withDate, onDay, advanced};
 
-// A field after an advance, and whether it carried.
+// A field after its step, and whether it carried.
 pub struct Step {
     pub value: u8,
     pub carry: bool,
@@ -26,7 +26,7 @@ pub struct Date {
     pub year: u8,
 }
 
-// A date after an advance, and whether its year carried.
+// A date after its step, and whether its year carried.
 pub struct DateStep {
     pub date: Date,
     pub carry: bool,
@@ -44,7 +44,7 @@ pub struct Time {
     pub year: u8,
 }
 
-// The next eight bytes, and which fields took a value; hundredths always do. Day and date take theirs together.
+// K10. The next eight bytes, and which fields took a value: hundredths always do, day and date together.
 pub struct Advanced {
     pub time: Time,
     pub seconds: bool,
@@ -81,7 +81,7 @@ pub const YEAR_FIRST: u8 = 0x00;
 
 pub const YEAR_LAST: u8 = 0x99;
 
-// One BCD field.
+// K7, K8 (bench). One BCD field, between its first and its last value.
 
 pub fn valid_field(first: u8, last: u8, x: u8) -> bool
     ensures { λ r. ⌜ r ≡ validField first last x ⌝ }
@@ -105,7 +105,7 @@ pub fn next_field(first: u8, last: u8, x: u8) -> Step
     }
 }
 
-// A field moves only where the one before it carried.
+// K10. A field moves only where the one before it carried.
 pub fn on_carry(carry: bool, x: u8, next: Step) -> Step
     ensures { λ r. ⌜ r ≡ onCarry carry x next ⌝ }
 {
@@ -150,7 +150,7 @@ pub fn first_seconds(b: u8) -> u8
     b - b % 128 + SECONDS_FIRST
 }
 
-// ST, bit 7, stays.
+// K9. ST, bit 7, stays.
 pub fn next_seconds(b: u8) -> Step
     ensures { λ r. ⌜ r ≡ nextSeconds b ⌝ }
 {
@@ -179,9 +179,9 @@ pub fn next_minutes(b: u8) -> Step
     next_seconds(b)
 }
 
-// Hours: the stored byte. Bit 7 (CALSGN) and bit 6 (12/24) stay; in 12-hour format bit 5 is PM.
+// K9, K14, K15. Hours: the stored byte. Bit 7 (CALSGN) and bit 6 (12/24) stay; in 12-hour format bit 5 is PM.
 
-// The hour of the day of bits 5:0 in 12-hour format: 12 AM is 0, 11 PM is 23.
+// K15. The hour of the day of bits 5:0 in 12-hour format: 12 AM is 0, 11 PM is 23.
 fn hour_of_twelve(f: u8) -> u8
     requires { ⌜ f < 64 ⌝ }
     ensures { λ r. ⌜ r ≡ hourOfTwelve f ⌝ }
@@ -190,7 +190,7 @@ fn hour_of_twelve(f: u8) -> u8
     (h / 16 * 10 + h % 16) % 12 + f / 32 * 12
 }
 
-// Bits 5:0 in 12-hour format of an hour of the day.
+// K15. Bits 5:0 in 12-hour format of an hour of the day.
 fn twelve_of_hour(h: u8) -> u8
     requires { ⌜ h < 24 ⌝ }
     ensures { λ r. ⌜ r ≡ twelveOfHour h ⌝ }
@@ -275,13 +275,14 @@ pub fn valid_year(x: u8) -> bool
     valid_field(YEAR_FIRST, YEAR_LAST, x)
 }
 
+// K13. Of the number that the byte stands for.
 pub fn leap(year: u8) -> bool
     ensures { λ r. ⌜ r ≡ leapYear year ⌝ }
 {
     valid_year(year) & ((year / 16 * 10 + year % 16) % 4 == 0)
 }
 
-// In BCD; 31h if the month is not valid.
+// K12. In BCD. A month that is not valid has 31 days.
 pub fn month_length(month: u8, leap: bool) -> u8
     ensures { λ r. ⌜ r ≡ monthLength month leap ⌝ }
 {
@@ -306,7 +307,7 @@ pub fn valid_date(month: u8, year: u8, x: u8) -> bool
     valid_field(DATE_FIRST, month_length(month, leap(year)), x)
 }
 
-// Day and date together, then month, then year. The day's carry goes nowhere.
+// K10, K11. Day and date move together; the month waits for the date's carry, the year for the month's. Nothing waits for the day's.
 pub fn next_date(d: Date) -> DateStep
     ensures { λ r. ⌜ r ≡ nextDate d ⌝ }
 {
@@ -348,7 +349,7 @@ pub fn date_of(t: Time) -> Date
     }
 }
 
-// Control bits beside the fields stay.
+// K9. What stands beside the fields stays.
 pub fn with_date(t: Time, d: Date) -> Time
     ensures { λ r. ⌜ r ≡ withDate t d ⌝ }
 {
@@ -364,7 +365,7 @@ pub fn with_date(t: Time, d: Date) -> Time
     }
 }
 
-// The date moves only where the hours carried.
+// K10. The date moves only where the hours carried.
 fn on_day(carry: bool, t: Time) -> Time
     ensures { λ r. ⌜ r ≡ onDay carry t ⌝ }
 {
@@ -376,7 +377,7 @@ fn on_day(carry: bool, t: Time) -> Time
     t
 }
 
-// One advance of the hundredths.
+// K10. One advance of the hundredths.
 pub fn advance(t: Time) -> Advanced
     ensures { λ r. ⌜ r ≡ advanced t ⌝ }
 {

@@ -1,42 +1,54 @@
 -- What select and a byte keep: a record in range, the lengths of its lists, the loaded offsets a byte; and the bit of each offset.
 -- Not what a frame answers.
 -- Assumes nothing.
-use Prim.Native.Nat.{ℕ, _+_, _^_, _<_}
+use Prim.Native.Nat.{ℕ, _+_, _*_, _^_, _<_}
 use native.Mathlib.Omega.{arith}
 use mathlib.Core.Path.{_≡_, refl, sym, subst, _∙_}
-use mathlib.Core.Bool.{Bool, true, false, not, _&&_}
+use mathlib.Core.Bool.{Bool, true, false, not, _&&_, false≢true}
 use mathlib.Core.List.{List, [], _∷_}
 use borrow.Author.Tests.{ltb-true, lt-ltb}
 use lib.Bits.{and-le-r, or-lt}
 use lib.Dec.{ltb}
 use lib.ListN.{length, getD, length-set}
-use Rattle.base.specs.Words.{every}
-use Rattle.base.proofs.Tests.{pick-case, pick-when, true-false}
+use Rattle.base.specs.Words.{every, flag}
+use Rattle.base.proofs.Tests.{pick-case, pick-when, true-false, flag-below}
 use Rattle.base.proofs.Every.{same-below, bound-below}
 use Rattle.record.specs.declared.Device.{Device}
 use Rattle.record.specs.declared.Load.{Load}
 use Rattle.record.specs.declared.EepromAddress.{EepromAddress}
 use Rattle.record.specs.declared.ClockAddress.{ClockAddress}
 use Rattle.record.specs.declared.IdAddress.{IdAddress}
-use Rattle.record.specs.declared.Cycle.{Cycle}
+use Rattle.record.specs.declared.Protection.{Protection}
 use Rattle.record.specs.declared.Code.{Code}
 use Rattle.record.specs.declared.Code.the-variants.{Eeread, Eewrite, Eewrdi, Eewren, Srread, Srwrite, Read, Write, Unlock, Idwrite, Idread, Clrwdt, Clrram, Other}
+use Rattle.record.specs.declared.Place.{Place}
+use Rattle.record.specs.declared.Place.the-variants.{EepromAt, ClockAt, IdAt}
+use Rattle.record.specs.declared.Pair.{Pair}
+use Rattle.record.specs.declared.Pair.the-variants.{StatusData, UnlockData, ClearWatchdog, ClearRam}
 use Rattle.record.specs.declared.Stage.{Stage}
-use Rattle.record.specs.declared.Stage.the-variants.{Idle, Opened, Unheard, Instruction, EepromRead, EepromWrite, ClockRead, ClockWrite, IdRead, IdWrite, StatusWrite, StatusWriteMore, UnlockSecond, UnlockMore, WatchdogSecond, WatchdogMore, RamSecond, RamMore, EnableMore, DisableMore}
-use Rattle.record.specs.Address.{offsetOf}
-use Rattle.record.specs.Numbers.{codeOf}
-use Rattle.record.specs.Part.{topOf, bootsOf}
-use Rattle.record.specs.Stages.{heardUnderWip, foreignToWip, idAt, eepromAt}
-use Rattle.refusals.specs.InRange.{InRange}
-use Rattle.block.specs.Setters.{withStage, withLoad}
-use Rattle.block.specs.Lines.{wip}
-use Rattle.block.specs.Registers.{writeClock}
-use Rattle.block.proofs.WriteLaws.{Beside, write-beside, write-regs-length, write-sram-length}
-use Rattle.device.proofs.RegisterLaws.{write-in-range}
-use Rattle.frames.specs.Frame.{secondStage, stageAfter, emptied, loadedWith, loadAfter, writtenAt, afterByte, afterSelect}
+use Rattle.record.specs.declared.Stage.the-variants.{Idle, Opened, Unheard, Instruction, Reading, Writing, Second, Over}
+use Rattle.record.specs.Address.{takenEeprom, takenId, offsetOf}
+use Rattle.record.specs.Codes.{codeOf, heardUnderWip, writesPage}
+use Rattle.record.specs.Numbers.{protectionNumber}
+use Rattle.record.specs.Part.{topOf, sizeOf, bootsOf}
+use Rattle.record.specs.Setters.{withStage, withLoad}
+use Rattle.record.specs.Stages.{selected, heard, readingCode, writingCode, secondCode, overCode, codeAt, foreignToWip, framePlace}
+use Rattle.record.specs.World.{Sized}
+use Rattle.record.proofs.NumberLaws.{protection-below}
+use Rattle.record.proofs.StageLaws.{heard-selected}
+use Rattle.refusals.specs.InRange.{PlaceRange, InRange}
+use Rattle.refusals.proofs.KeepLaws.{Beside, beside}
+use Rattle.registers.specs.Write.{writeClock}
+use Rattle.registers.proofs.WriteLaws.{write-beside, write-lengths, write-in-range}
+use Rattle.ticks.specs.Lines.{wip}
+use Rattle.frames.specs.Frame.{secondStage, readOn, writtenOn, thirdByte, stageAfter, emptied, loadedWith, writingLoad, loadAfter, writtenPlace, writtenAt, afterByte, afterSelect}
+
+-- the upper four bits of STATUS are 0
+pub status-fits : (a b : Bool) (p : Protection) → flag a + flag b * 2 + protectionNumber p * 4 < 16
+status-fits a b p = omega (arith, flag-below a, flag-below b, protection-below p)
 
 -- The bit of each offset: the table of the code is the power of the definition.
-abbrev pub offsets : List ℕ
+abbrev offsets : List ℕ
 offsets = 1 ∷ 2 ∷ 4 ∷ 8 ∷ 16 ∷ 32 ∷ 64 ∷ 128 ∷ []
 
 pub offset-bit : (k : ℕ) → k < 8 → getD offsets k 0 ≡ 2 ^ k
@@ -47,186 +59,183 @@ offset-below : (k : ℕ) → k < 8 → 2 ^ k < 256
 unfolding every
 offset-below k h = bound-below (λ (n : ℕ). 2 ^ n) 256 8 refl k h
 
--- what holds of the load, of an emptied one and of one with one byte more holds after a byte
-pub load-case :
-    (P : Load → Type 0) (l : Load) (v : ℕ) → P l → P (emptied l v) → P (loadedWith l v) → (s : Stage) → P (loadAfter l v s)
-load-case P l v p q r (Instruction Eewrite) = q
-load-case P l v p q r (Instruction Idwrite) = q
-load-case P l v p q r (Instruction Eeread) = p
-load-case P l v p q r (Instruction Eewrdi) = p
-load-case P l v p q r (Instruction Eewren) = p
-load-case P l v p q r (Instruction Srread) = p
-load-case P l v p q r (Instruction Srwrite) = p
-load-case P l v p q r (Instruction Read) = p
-load-case P l v p q r (Instruction Write) = p
-load-case P l v p q r (Instruction Unlock) = p
-load-case P l v p q r (Instruction Idread) = p
-load-case P l v p q r (Instruction Clrwdt) = p
-load-case P l v p q r (Instruction Clrram) = p
-load-case P l v p q r (Instruction Other) = p
-load-case P l v p q r (EepromWrite a) = r
-load-case P l v p q r (IdWrite a) = r
-load-case P l v p q r Idle = p
-load-case P l v p q r Opened = p
-load-case P l v p q r Unheard = p
-load-case P l v p q r (EepromRead a) = p
-load-case P l v p q r (ClockRead a) = p
-load-case P l v p q r (ClockWrite a) = p
-load-case P l v p q r (IdRead a) = p
-load-case P l v p q r (StatusWrite w) = p
-load-case P l v p q r StatusWriteMore = p
-load-case P l v p q r (UnlockSecond w) = p
-load-case P l v p q r UnlockMore = p
-load-case P l v p q r WatchdogSecond = p
-load-case P l v p q r WatchdogMore = p
-load-case P l v p q r RamSecond = p
-load-case P l v p q r RamMore = p
-load-case P l v p q r EnableMore = p
-load-case P l v p q r DisableMore = p
+-- What holds of the load, of an emptied one and of one with one byte more holds after a byte.
+module _ (P : Load → Type 0) (l : Load) (v : ℕ) (p : P l) (q : P (emptied l v)) (r : P (loadedWith l v)) where
+  writing-case : (x : Place) → P (writingLoad l v x)
+  writing-case (EepromAt a) = r
+  writing-case (ClockAt a) = p
+  writing-case (IdAt a) = r
 
--- what holds of the device and of every WRITE to it holds after a byte's store
-pub written-case :
-    (P : Device → Type 0) (boots : Bool) (d : Device) (v : ℕ) → P d → ((a : ClockAddress) → P (writeClock boots d a v))
-    → (s : Stage) → P (writtenAt boots d v s)
-written-case P boots d v p q (ClockWrite a) = q a
-written-case P boots d v p q Idle = p
-written-case P boots d v p q Opened = p
-written-case P boots d v p q Unheard = p
-written-case P boots d v p q (Instruction c) = p
-written-case P boots d v p q (EepromRead a) = p
-written-case P boots d v p q (EepromWrite a) = p
-written-case P boots d v p q (ClockRead a) = p
-written-case P boots d v p q (IdRead a) = p
-written-case P boots d v p q (IdWrite a) = p
-written-case P boots d v p q (StatusWrite w) = p
-written-case P boots d v p q StatusWriteMore = p
-written-case P boots d v p q (UnlockSecond w) = p
-written-case P boots d v p q UnlockMore = p
-written-case P boots d v p q WatchdogSecond = p
-written-case P boots d v p q WatchdogMore = p
-written-case P boots d v p q RamSecond = p
-written-case P boots d v p q RamMore = p
-written-case P boots d v p q EnableMore = p
-written-case P boots d v p q DisableMore = p
+  pub load-case : (s : Stage) → P (loadAfter l v s)
+  load-case Idle = p
+  load-case Opened = p
+  load-case Unheard = p
+  load-case (Instruction c) = pick-case P (writesPage c) q p
+  load-case (Reading x) = p
+  load-case (Writing x) = writing-case x
+  load-case (Second x) = p
+  load-case (Over x) = p
+
+-- What holds of the device and of every WRITE to it holds after a byte's store.
+module _ (P : Device → Type 0) (boots : Bool) (d : Device) (v : ℕ) (p : P d) (q : (a : ClockAddress) → P (writeClock boots d a v)) where
+  place-case : (x : Place) → P (writtenPlace boots d v x)
+  place-case (EepromAt a) = p
+  place-case (ClockAt a) = q a
+  place-case (IdAt a) = p
+
+  pub written-case : (s : Stage) → P (writtenAt boots d v s)
+  written-case Idle = p
+  written-case Opened = p
+  written-case Unheard = p
+  written-case (Instruction c) = p
+  written-case (Reading x) = p
+  written-case (Writing x) = place-case x
+  written-case (Second x) = p
+  written-case (Over x) = p
 
 -- a byte leaves alone what is no register, SRAM, count, stage or load
 pub written-beside : (boots : Bool) (d : Device) (v : ℕ) (s : Stage) → Beside d (writtenAt boots d v s)
-written-beside boots d v =
-    written-case (Beside d) boots d v (record { power = refl; guard = refl; frame = refl; load = refl; cycle = refl })
-    (λ a. write-beside boots d a v)
+written-beside boots d v = written-case (Beside d) boots d v (beside d) (λ a. write-beside boots d a v)
 
 -- The pointers of a stage: an ID pointer below 16, an EEPROM pointer up to the top address.
-abbrev Points : ℕ → Stage → Type 0
-Points top s = (idAt s < 16) × (eepromAt s < top + 1)
+nowhere : (top : ℕ) → (a : ClockAddress) → PlaceRange (top + 1) (ClockAt a)
+nowhere top a = record { id = omega arith; eeprom = omega arith }
 
-second-points : (top v : ℕ) (c : Code) → Points top (secondStage top v c)
-second-points top v Eeread = (omega arith, omega (arith, and-le-r v top))
-second-points top v Eewrite = (omega arith, omega (arith, and-le-r v top))
-second-points top v Eewrdi = (omega arith, omega arith)
-second-points top v Eewren = (omega arith, omega arith)
-second-points top v Srread = (omega arith, omega arith)
-second-points top v Srwrite = (omega arith, omega arith)
-second-points top v Read = (omega arith, omega arith)
-second-points top v Write = (omega arith, omega arith)
-second-points top v Unlock = (omega arith, omega arith)
-second-points top v Idwrite = (omega arith, omega arith)
-second-points top v Idread = (omega arith, omega arith)
-second-points top v Clrwdt = (omega arith, omega arith)
-second-points top v Clrram = (omega arith, omega arith)
-second-points top v Other = (omega arith, omega arith)
+taken-place : (top v : ℕ) → PlaceRange (top + 1) (EepromAt (takenEeprom top v))
+taken-place top v = record { id = omega arith; eeprom = omega (arith, and-le-r v top) }
 
-stage-points : (top : ℕ) (busy : Bool) (v : ℕ) (s : Stage) → Points top s → Points top (stageAfter top busy v s)
-stage-points top busy v Idle h = h
-stage-points top busy v Opened h =
-    pick-case (Points top) (busy && not (heardUnderWip (codeOf v))) (omega arith, omega arith) (omega arith, omega arith)
-stage-points top busy v Unheard h = h
-stage-points top busy v (Instruction c) h = second-points top v c
-stage-points top busy v (EepromRead a) h =
-    (omega arith, pick-when (λ (b : EepromAddress). b .0 < top + 1) (ltb (a .0) top) (λ t. omega (arith, ltb-true (a .0) top t)) (λ t. omega arith))
-stage-points top busy v (EepromWrite a) h = h
-stage-points top busy v (ClockRead a) h = (omega arith, omega arith)
-stage-points top busy v (ClockWrite a) h = (omega arith, omega arith)
-stage-points top busy v (IdRead a) h =
-    (pick-when (λ (b : IdAddress). b .0 < 16) (ltb (a .0) 0x0f) (λ t. omega (arith, ltb-true (a .0) 0x0f t)) (λ t. omega arith), omega arith)
-stage-points top busy v (IdWrite a) h = h
-stage-points top busy v (StatusWrite w) h = (omega arith, omega arith)
-stage-points top busy v StatusWriteMore h = h
-stage-points top busy v (UnlockSecond w) h = (omega arith, omega arith)
-stage-points top busy v UnlockMore h = h
-stage-points top busy v WatchdogSecond h = h
-stage-points top busy v WatchdogMore h = h
-stage-points top busy v RamSecond h = h
-stage-points top busy v RamMore h = h
-stage-points top busy v EnableMore h = h
-stage-points top busy v DisableMore h = h
+id-place : (top v : ℕ) → PlaceRange (top + 1) (IdAt (takenId v))
+id-place top v = record { id = omega arith; eeprom = omega arith }
 
--- While a cycle runs a frame of another code than the five stays unheard.
-second-heard : (top v : ℕ) (c : Code) → foreignToWip (Instruction c) ≡ false → foreignToWip (secondStage top v c) ≡ false
-second-heard top v Eeread h = h
-second-heard top v Eewrite h = h
-second-heard top v Eewrdi h = h
-second-heard top v Eewren h = h
-second-heard top v Srread h = h
-second-heard top v Srwrite h = h
-second-heard top v Read h = h
-second-heard top v Write h = h
-second-heard top v Unlock h = h
-second-heard top v Idwrite h = h
-second-heard top v Idread h = h
-second-heard top v Clrwdt h = h
-second-heard top v Clrram h = h
-second-heard top v Other h = h
+second-place : (top v : ℕ) (c : Code) → PlaceRange (top + 1) (framePlace (secondStage top v c))
+second-place top v Eeread = taken-place top v
+second-place top v Eewrite = taken-place top v
+second-place top v Eewrdi = nowhere top _
+second-place top v Eewren = nowhere top _
+second-place top v Srread = nowhere top _
+second-place top v Srwrite = nowhere top _
+second-place top v Read = nowhere top _
+second-place top v Write = nowhere top _
+second-place top v Unlock = nowhere top _
+second-place top v Idwrite = id-place top v
+second-place top v Idread = id-place top v
+second-place top v Clrwdt = nowhere top _
+second-place top v Clrram = nowhere top _
+second-place top v Other = nowhere top _
 
-stage-heard : (top v : ℕ) (s : Stage) → foreignToWip s ≡ false → foreignToWip (stageAfter top true v s) ≡ false
-stage-heard top v Idle h = h
-stage-heard top v Opened h = pick-when (λ (s : Stage). foreignToWip s ≡ false) (not (heardUnderWip (codeOf v))) (λ t. refl) (λ t. t)
-stage-heard top v Unheard h = h
-stage-heard top v (Instruction c) h = second-heard top v c h
-stage-heard top v (EepromRead a) h = h
-stage-heard top v (EepromWrite a) h = h
-stage-heard top v (ClockRead a) h = h
-stage-heard top v (ClockWrite a) h = h
-stage-heard top v (IdRead a) h = h
-stage-heard top v (IdWrite a) h = h
-stage-heard top v (StatusWrite w) h = h
-stage-heard top v StatusWriteMore h = h
-stage-heard top v (UnlockSecond w) h = h
-stage-heard top v UnlockMore h = h
-stage-heard top v WatchdogSecond h = h
-stage-heard top v WatchdogMore h = h
-stage-heard top v RamSecond h = h
-stage-heard top v RamMore h = h
-stage-heard top v EnableMore h = h
-stage-heard top v DisableMore h = h
+read-place : (top : ℕ) (p : Place) → PlaceRange (top + 1) p → PlaceRange (top + 1) (readOn top p)
+read-place top (EepromAt a) h =
+    record { id = omega arith; eeprom = pick-when (λ (b : EepromAddress). b .0 < top + 1) (ltb (a .0) top) (λ t. omega (arith, ltb-true (a .0) top t)) (λ t. omega arith) }
+read-place top (ClockAt a) h = nowhere top _
+read-place top (IdAt a) h =
+    record { id = pick-when (λ (b : IdAddress). b .0 < 16) (ltb (a .0) 0x0f) (λ t. omega (arith, ltb-true (a .0) 0x0f t)) (λ t. omega arith); eeprom = omega arith }
+
+written-place : (top : ℕ) (p : Place) → PlaceRange (top + 1) p → PlaceRange (top + 1) (writtenOn p)
+written-place top (EepromAt a) h = h
+written-place top (ClockAt a) h = nowhere top _
+written-place top (IdAt a) h = h
+
+stage-place : (top : ℕ) (busy : Bool) (v : ℕ) (s : Stage) → PlaceRange (top + 1) (framePlace s) → PlaceRange (top + 1) (framePlace (stageAfter top busy v s))
+stage-place top busy v Idle h = h
+stage-place top busy v Opened h =
+    pick-case (λ (s : Stage). PlaceRange (top + 1) (framePlace s)) (busy && not (heardUnderWip (codeOf v))) (nowhere top _) (nowhere top _)
+stage-place top busy v Unheard h = h
+stage-place top busy v (Instruction c) h = second-place top v c
+stage-place top busy v (Reading p) h = read-place top p h
+stage-place top busy v (Writing p) h = written-place top p h
+stage-place top busy v (Second q) h = h
+stage-place top busy v (Over l) h = h
+
+-- A heard frame stays heard, and keeps its code.
+pub record Keeps (c : Code) (s : Stage) : Type 0 where
+  pub heard : heard s ≡ true
+  pub code : codeAt s ≡ c
+
+second-keeps : (top v : ℕ) (c : Code) → Keeps c (secondStage top v c)
+second-keeps top v Eeread = record { heard = refl; code = refl }
+second-keeps top v Eewrite = record { heard = refl; code = refl }
+second-keeps top v Eewrdi = record { heard = refl; code = refl }
+second-keeps top v Eewren = record { heard = refl; code = refl }
+second-keeps top v Srread = record { heard = refl; code = refl }
+second-keeps top v Srwrite = record { heard = refl; code = refl }
+second-keeps top v Read = record { heard = refl; code = refl }
+second-keeps top v Write = record { heard = refl; code = refl }
+second-keeps top v Unlock = record { heard = refl; code = refl }
+second-keeps top v Idwrite = record { heard = refl; code = refl }
+second-keeps top v Idread = record { heard = refl; code = refl }
+second-keeps top v Clrwdt = record { heard = refl; code = refl }
+second-keeps top v Clrram = record { heard = refl; code = refl }
+second-keeps top v Other = record { heard = refl; code = refl }
+
+read-code : (top : ℕ) (p : Place) → readingCode (readOn top p) ≡ readingCode p
+read-code top (EepromAt a) = refl
+read-code top (ClockAt a) = refl
+read-code top (IdAt a) = refl
+
+written-code : (p : Place) → writingCode (writtenOn p) ≡ writingCode p
+written-code (EepromAt a) = refl
+written-code (ClockAt a) = refl
+written-code (IdAt a) = refl
+
+third-code : (q : Pair) → overCode (thirdByte q) ≡ secondCode q
+third-code (StatusData v) = refl
+third-code (UnlockData v) = refl
+third-code ClearWatchdog = refl
+third-code ClearRam = refl
+
+pub stage-keeps : (top : ℕ) (busy : Bool) (v : ℕ) (s : Stage) → heard s ≡ true → Keeps (codeAt s) (stageAfter top busy v s)
+stage-keeps top busy v Idle h = absurd (false≢true h)
+stage-keeps top busy v Opened h = absurd (false≢true h)
+stage-keeps top busy v Unheard h = absurd (false≢true h)
+stage-keeps top busy v (Instruction c) h = second-keeps top v c
+stage-keeps top busy v (Reading p) h = record { heard = refl; code = read-code top p }
+stage-keeps top busy v (Writing p) h = record { heard = refl; code = written-code p }
+stage-keeps top busy v (Second q) h = record { heard = refl; code = third-code q }
+stage-keeps top busy v (Over l) h = record { heard = refl; code = refl }
+
+-- A byte leaves the chip selected as it was.
+pub stage-selected : (top : ℕ) (busy : Bool) (v : ℕ) (s : Stage) → selected (stageAfter top busy v s) ≡ selected s
+stage-selected top busy v Idle = refl
+stage-selected top busy v Opened = pick-case (λ (s : Stage). selected s ≡ true) (busy && not (heardUnderWip (codeOf v))) refl refl
+stage-selected top busy v Unheard = refl
+stage-selected top busy v (Instruction c) = heard-selected (secondStage top v c) (second-keeps top v c .heard)
+stage-selected top busy v (Reading p) = refl
+stage-selected top busy v (Writing p) = refl
+stage-selected top busy v (Second q) = refl
+stage-selected top busy v (Over l) = refl
+
+-- So while a cycle runs a frame of another code than the five stays unheard.
+heard-foreign : (top v : ℕ) (s : Stage) → heard s ≡ true → foreignToWip s ≡ false → foreignToWip (stageAfter top true v s) ≡ false
+heard-foreign top v s h f =
+    let k : Keeps (codeAt s) (stageAfter top true v s) = stage-keeps top true v s h in
+    simp (k .heard, k .code) (rw h at f)
+
+stage-foreign : (top v : ℕ) (s : Stage) → foreignToWip s ≡ false → foreignToWip (stageAfter top true v s) ≡ false
+stage-foreign top v Idle f = f
+stage-foreign top v Opened f = pick-when (λ (s : Stage). foreignToWip s ≡ false) (not (heardUnderWip (codeOf v))) (λ t. refl) (λ t. t)
+stage-foreign top v Unheard f = f
+stage-foreign top v (Instruction c) f = heard-foreign top v (Instruction c) refl f
+stage-foreign top v (Reading p) f = heard-foreign top v (Reading p) refl f
+stage-foreign top v (Writing p) f = heard-foreign top v (Writing p) refl f
+stage-foreign top v (Second q) f = heard-foreign top v (Second q) refl f
+stage-foreign top v (Over l) f = f
 
 -- a record in range at another stage and with another load
 moved-in-range :
-    (part : ℕ) (d : Device) (s : Stage) (l : Load) → d .power ≡ true → InRange part d → Points (topOf part) s → l .next < 8
+    (part : ℕ) (d : Device) (s : Stage) (l : Load) → d .power ≡ true → InRange part d → PlaceRange (sizeOf part) (framePlace s) → l .next < 8
     → (0 < d .cycle .left → foreignToWip s ≡ false) → InRange part (withLoad (withStage d s) l)
 moved-in-range part d s l on r p o h =
     record {
-      divider = r .divider;
-      startup = r .startup;
-      countdown = r .countdown;
-      pulse = r .pulse;
-      delay = r .delay;
-      watchdog = r .watchdog;
-      offset = o;
-      frameId = p .0;
-      cycleId = r .cycleId;
-      frameEeprom = p .1;
-      cycleEeprom = r .cycleEeprom;
-      inside = r .inside;
-      stopped = r .stopped;
-      offIdle = λ off. absurd (true-false on off);
-      offStill = r .offStill;
-      heard = h;
+      clock = r .clock;
+      frame = record { offset = o; place = p };
+      cycle = r .cycle;
+      power = record { idle = λ off. absurd (true-false on off); still = r .power .still; heard = h };
     }
 
 -- select leaves a record in range
 pub select-in-range : (part : ℕ) (d : Device) → d .power ≡ true → InRange part d → InRange part (afterSelect d)
 unfolding afterSelect
-select-in-range part d on r = moved-in-range part d Opened (d .load) on r (omega arith, omega arith) (r .offset) (λ h. refl)
+select-in-range part d on r = moved-in-range part d Opened (d .load) on r (nowhere (topOf part) _) (r .frame .offset) (λ h. refl)
 
 -- a byte leaves a record in range, whatever its value
 pub byte-in-range :
@@ -240,19 +249,13 @@ byte-in-range part v d on r =
     let b : Beside d e = written-beside boots d v s in
     moved-in-range part e (stageAfter top (wip d) v s) (loadAfter (d .load) v s) (b .power ∙ on)
     (written-case (InRange part) boots d v r (λ a. write-in-range part d a v r) s)
-    (stage-points top (wip d) v s (r .frameId, r .frameEeprom))
-    (load-case (λ (l : Load). l .next < 8) (d .load) v (r .offset) (omega arith) (omega arith) s)
+    (stage-place top (wip d) v s (r .frame .place))
+    (load-case (λ (l : Load). l .next < 8) (d .load) v (r .frame .offset) (omega arith) (omega arith) s)
     (λ h.
-    let q : 0 < d .cycle .left = subst (λ (y : Cycle). 0 < y .left) (b .cycle) h in
-    subst (λ (t : Bool). foreignToWip (stageAfter top t v s) ≡ false) (sym (lt-ltb 0 (d .cycle .left) q)) (stage-heard top v s (r .heard q)))
+    let q : 0 < d .cycle .left = rw (b .cycle) at h in
+    subst (λ (t : Bool). foreignToWip (stageAfter top t v s) ≡ false) (sym (lt-ltb 0 (d .cycle .left) q)) (stage-foreign top v s (r .power .heard q)))
 
--- Every record that the code can hold has these lengths, and a byte for its loaded offsets. A theorem about definitions asks for them.
-pub record Sized (d : Device) : Type 0 where
-  pub regs : length (d .regs) ≡ 32
-  pub sram : length (d .sram) ≡ 64
-  pub bytes : length (d .load .bytes) ≡ 8
-  pub offsets : d .load .offsets < 256
-
+-- Lengths.
 pub select-sized : (d : Device) → Sized d → Sized (afterSelect d)
 unfolding afterSelect
 select-sized d z = record { regs = z .regs; sram = z .sram; bytes = z .bytes; offsets = z .offsets }
@@ -263,8 +266,8 @@ byte-sized boots top v d z =
     let s : Stage = d .frame .stage in
     let l : Load = d .load in
     record {
-      regs = written-case (λ (e : Device). length (e .regs) ≡ 32) boots d v (z .regs) (λ a. write-regs-length boots d a v ∙ z .regs) s;
-      sram = written-case (λ (e : Device). length (e .sram) ≡ 64) boots d v (z .sram) (λ a. write-sram-length boots d a v ∙ z .sram) s;
+      regs = written-case (λ (e : Device). length (e .regs) ≡ 32) boots d v (z .regs) (λ a. write-lengths boots d a v .0 ∙ z .regs) s;
+      sram = written-case (λ (e : Device). length (e .sram) ≡ 64) boots d v (z .sram) (λ a. write-lengths boots d a v .1 ∙ z .sram) s;
       bytes = load-case (λ (m : Load). length (m .bytes) ≡ 8) l v (z .bytes) (z .bytes) (length-set (l .bytes) (offsetOf (l .next)) v ∙ z .bytes) s;
       offsets =
           load-case (λ (m : Load). m .offsets < 256) l v (z .offsets) (omega arith)

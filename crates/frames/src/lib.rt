@@ -1,3 +1,3 @@
-// Frames and power, as functions of the chip's record: select, byte, cut, up.
-pub mod frame; // frame.rt: select and byte
-pub mod power; // power.rt: cut and up
+// Select and the bytes of a frame, as functions of the chip's record.
+pub mod reply; // reply.rt: what the next whole exchange answers
+pub mod byte; // byte.rt: where a byte takes the frame, and what it does

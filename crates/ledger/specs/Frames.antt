@@ -1,5 +1,5 @@
--- How the ledger reads document 01, "Frames": which frame is heard, what a byte adds to it, which write is carried into its cycle,
--- and how WEL and the lock move at an end.
+-- The ledger's own words for the rules of frames: which one is heard, what a byte adds to it, which write starts a
+-- cycle, and how WEL and the lock move at an end.
 -- It gives no reply and knows neither registers nor SRAM: of a frame it keeps what a write, WEL and the lock need.
 -- Assumes nothing.
 use mathlib.Core.Bool.{Bool, true, false, not, _&&_, _||_}
@@ -9,7 +9,7 @@ use lib.Dec.{leb, ltb, eqb}
 use Rattle.base.specs.Words.{pick}
 use Rattle.ledger.specs.State.{Lock, closed, firstStep, opened, Kind, eepromCycle, idCycle, statusCycle, Frame, Cycle, Ledger}
 
--- "Codes (000, table 3-1)", those that the rules below name
+-- F1. The codes that the rules below name.
 abbrev pub SRWRITE : ℕ
 SRWRITE = 0x01
 
@@ -43,28 +43,28 @@ CLRWDT = 0x44
 abbrev pub CLRRAM : ℕ
 CLRRAM = 0x54
 
--- "EEPROM (128 or 256 bytes)", by the part: "1 W 1K, 2 W 2K, 3 B 1K, 4 B 2K". No run has another part.
+-- C8, T6. The bytes of the EEPROM: parts 1 and 3 have 1 Kbit, 2 and 4 have 2. No run has another part.
 abbrev pub eepromSize : ℕ → ℕ
 eepromSize part = pick (eqb part 1 || eqb part 3) 128 256
 
--- WIP, "being the ledger's cycle"
+-- L9. WIP: the ledger's cycle has ticks left.
 abbrev pub running : Cycle → Bool
 running c = ltb 0 (c .left)
 
--- "WIP is looked at when the instruction byte arrives. If set, only SRREAD, READ, WRITE, CLRWDT, CLRRAM are heard"
+-- F31, F32. Which first byte is heard: each one where no cycle runs; five codes where one does.
 abbrev pub heardAt : Cycle → ℕ → Bool
 heardAt c code =
     not (running c) || eqb code SRREAD || eqb code READ || eqb code WRITE || eqb code CLRWDT || eqb code CLRRAM
 
--- the writes that have an address
+-- F8, F9. The writes that have an address byte.
 abbrev pub addressed : ℕ → Bool
 addressed code = eqb code EEWRITE || eqb code IDWRITE
 
--- "EEWRITE, SRWRITE or IDWRITE"
+-- F30. The three writes.
 abbrev pub isWrite : ℕ → Bool
 isWrite code = addressed code || eqb code SRWRITE
 
--- the bytes of a write before its data: the instruction, and the address where it has one
+-- the bytes of a write before its data: its code, and the address where it has one
 abbrev pub leading : ℕ → ℕ
 leading code = pick (addressed code) 2 1
 
@@ -72,24 +72,24 @@ leading code = pick (addressed code) 2 1
 abbrev pub dataCount : Frame → ℕ
 dataCount f = f .count - leading (f .code)
 
--- "a 1 Kbit part drops address bit 7", which in a byte is the rest by its 128 bytes; "ID address is taken modulo 16"
+-- F8, F9. The place that an address byte names: its rest by the EEPROM's size, which on a 1 Kbit part is all but bit 7, or by 16.
 abbrev pub addressOf : ℕ → ℕ → ℕ → ℕ
 addressOf part code b = pick (eqb code IDWRITE) (b % 16) (b % eepromSize part)
 
--- the byte that comes is the address, or a data byte, of a write
+-- whether the byte that comes is the address, or a data byte, of a write
 abbrev pub addressNext : Frame → Bool
 addressNext f = addressed (f .code) && eqb (f .count) 1
 
 abbrev pub dataNext : Frame → Bool
 dataNext f = isWrite (f .code) && leb (leading (f .code)) (f .count)
 
--- "Byte: the first is the code, heard by the WIP rule, WIP being the ledger's cycle"
+-- L9. The first byte is the code, and decides whether the frame is heard.
 unfoldable pub firstByte : Cycle → ℕ → Frame
 firstByte c b = record { heard = heardAt c b; code = b; second = 0; count = 1; page = 0; next = 0; loaded = [] }
 
--- "later ones go as under Frames": "pages are 8 bytes, x000 to x111", so a page is the address less its lowest three bits;
--- "Later bytes roll inside the page and replace earlier ones." SRWRITE has no address: its data byte is loaded at offset 0.
--- In a frame that is not heard the bytes count alike; its end reads none of them.
+-- L9, F21, F22. Each later byte is counted, and the second is kept. An address sets page and offset: a page is 8 bytes, so it is
+-- the address less its lowest three bits. A data byte is loaded at the offset, which goes from 7 back to 0. SRWRITE has no
+-- address: its data byte is loaded at offset 0. In a frame that is not heard the bytes count alike; its end reads none of them.
 unfoldable pub laterByte : ℕ → ℕ → Frame → Frame
 laterByte part b f =
     record {
@@ -110,15 +110,15 @@ frameAfter part c b f = pick (eqb (f .count) 0) (firstByte c b) (laterByte part 
 abbrev pub exactly : ℕ → ℕ → Frame → Bool
 exactly n leftover f = eqb (f .count) n && eqb leftover 0
 
--- "BP 01 protects the upper quarter, 10 the upper half, 11 all."
+-- F29. The first place that BP guards: 0 guards none, 1 the last quarter, 2 the last half, 3 every place.
 abbrev pub firstProtected : ℕ → ℕ → ℕ
 firstProtected bp size = pick (eqb bp 1) (size / 4 * 3) (pick (eqb bp 2) (size / 2) (pick (eqb bp 3) 0 size))
 
--- the page lies in what BP protects, which is whole pages
+-- F26. The page lies in what BP guards, which is whole pages.
 abbrev pub protected : ℕ → ℕ → ℕ → Bool
 protected bp size page = leb (firstProtected bp size) page
 
--- tests of the lock: the first step of UNLOCK was the last, or it is open
+-- tests of the lock: the first step was taken, or it is open
 abbrev pub isFirstStep : Lock → Bool
 isFirstStep closed = false
 isFirstStep firstStep = true
@@ -129,50 +129,48 @@ isOpen closed = false
 isOpen firstStep = false
 isOpen opened = true
 
--- "at least one data byte came"
+-- F24. A write with data.
 abbrev pub withData : Frame → Bool
 withData f = isWrite (f .code) && ltb 0 (dataCount f)
 
--- "at least one data byte came (SRWRITE: exactly one)"
+-- F24. As much data as the write wants: any for a page, one byte for SRWRITE.
 abbrev pub dataFits : Frame → Bool
 dataFits f = withData f && (not (eqb (f .code) SRWRITE) || eqb (dataCount f) 1)
 
--- "the page is not protected (EEWRITE) or the lock is open (IDWRITE)"
+-- F26, F27. What else a write needs: EEWRITE a page that BP does not guard, IDWRITE the open lock, SRWRITE nothing.
 abbrev pub allowed : ℕ → Ledger → Bool
 allowed part l =
     pick (eqb (l .frame .code) EEWRITE) (not (protected (l .bp) (eepromSize part) (l .frame .page)))
     (pick (eqb (l .frame .code) IDWRITE) (isOpen (l .lock)) true)
 
--- "A write is carried into its cycle when WEL is set, at least one data byte came (SRWRITE: exactly one), no bit is left over,
--- the page is not protected (EEWRITE) or the lock is open (IDWRITE)." Carried is a word of document 01.
--- Whether the frame was heard is asked at the end itself.
+-- L11, F23, F24, F25, F26, F27. Whether the end starts the write's cycle: enabled, with its data, no bit more, and allowed.
+-- Carried is a word of document 01. Whether the frame was heard is asked at the end itself.
 unfoldable pub carried : ℕ → ℕ → Ledger → Bool
 carried part leftover l = l .wel && dataFits (l .frame) && eqb leftover 0 && allowed part l
 
--- what a carried write's cycle writes
+-- L4. What a carried write's cycle writes, by its code.
 abbrev pub kindOf : ℕ → Kind
 kindOf code = pick (eqb code EEWRITE) eepromCycle (pick (eqb code IDWRITE) idCycle statusCycle)
 
--- "The cycle lasts 164 ticks (bench, 5 ms rounded up)"
+-- F28 (bench). The ticks of a cycle, 5 ms.
 abbrev pub cycleLength : ℕ
 cycleLength = 164
 
--- "a carried write first becomes the cycle, 164 ticks left"
+-- L11. The cycle of a carried write.
 unfoldable pub cycleOf : Frame → Cycle
 cycleOf f = record { kind = kindOf (f .code); page = f .page; loaded = f .loaded; left = cycleLength }
 
--- How WEL moves at the end of a heard frame, by whether a cycle starts: "EEWREN and EEWRDI act at an end after exactly 8 bits."
--- "Whenever a heard EEWRITE, SRWRITE or IDWRITE ends with at least one data byte and no cycle starts, WEL clears."
+-- L11, F19, F30. WEL at the end of a heard frame, by whether a cycle starts: EEWREN sets it and EEWRDI clears it, each if it is
+-- the frame's only byte, with no bit more; a write whose data start no cycle clears it.
 unfoldable pub welAfter : ℕ → Bool → Frame → Bool → Bool
 welAfter leftover starts f wel =
     pick (eqb (f .code) EEWREN && exactly 1 leftover f) true
     (pick (eqb (f .code) EEWRDI && exactly 1 leftover f) false
     (pick (withData f && not starts) false wel))
 
--- How the lock moves at the end of a heard frame (bench): "UNLOCK 55h, then UNLOCK AAh, opens; each is two bytes, no leftover.
--- 55h always counts as the first step, and a lock that was open is then no longer open; anything else in UNLOCK closes. Closing
--- forgets the first step. A heard frame, an unknown code too, with another first byte than UNLOCK, EEWREN or SRREAD closes it at
--- its end, after its own effect is judged."
+-- L11, F33, F34, F35, F36 (bench). The lock at the end of a heard frame. UNLOCK of two whole bytes puts it to its first step with
+-- 55h, whatever it was, and with AAh opens it from there. Every other UNLOCK closes it. EEWREN and SRREAD leave it; any other
+-- code, an unknown one too, closes it once the frame has had its effect.
 unfoldable pub lockAfter : ℕ → Frame → Lock → Lock
 lockAfter leftover f k =
     pick (eqb (f .code) UNLOCK)

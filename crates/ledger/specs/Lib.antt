@@ -1,4 +1,5 @@
 pub mod State
+pub mod Setters
 pub mod Frames
 pub mod Bytes
 pub mod Steps

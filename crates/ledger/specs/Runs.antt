@@ -1,7 +1,7 @@
--- Closed runs of the ledger from its start, worked by hand from document 01: what it says of each, under one statement.
+-- Closed runs of the ledger from its start, worked by hand from the rules: the bytes or the BP that each leaves, under one statement.
 -- They show that the ledger is not empty. They say nothing of a chip, and no rule stands here: codes are written as on the wire.
 -- Assumes nothing.
-use mathlib.Core.Path.{_≡_, refl}
+use mathlib.Core.Path.{_≡_}
 use mathlib.Core.List.{List, [], _∷_, _++_}
 use Prim.Native.Nat.{ℕ}
 use Rattle.ledger.specs.State.{Act, select, byte, end, wait, cut, up, Step, Memory, eeprom, id, Entry, noByte, noCycle, start}
@@ -9,12 +9,12 @@ use Rattle.ledger.specs.Frames.{firstByte, laterByte, carried, cycleOf, 
 use Rattle.ledger.specs.Bytes.{isLoaded, loadedByte, entriesUnder, entriesAfter, bpAfter, byteOf}
 use Rattle.ledger.specs.Steps.{refused, onSelect, onByte, onEnd, ticked, waited, finished, onWait, onCut, onUp, follow, ledgerRun}
 
--- an act with its number; a wait with its number and the ticks that it used
+-- an act with its argument; a wait with its argument and the ticks that it used
 abbrev does : Act → ℕ → Step
-does a n = record { act = a; number = n; used = 0 }
+does a n = record { act = a; arg = n; used = 0 }
 
 abbrev waits : ℕ → ℕ → List Step
-waits n used = record { act = wait; number = n; used = used } ∷ []
+waits n used = record { act = wait; arg = n; used = used } ∷ []
 
 -- a wait that stops where the cycle ends, and one in which none runs
 abbrev ends : List Step
@@ -68,11 +68,11 @@ idAfter part ss ps = foundAt id ps (ledgerRun part ss start .entries)
 abbrev bpFound : ℕ → List Step → ℕ
 bpFound part ss = ledgerRun part ss start .bp
 
--- document 01, "Whole case", after its part
+-- T10. The whole case, after its part.
 abbrev wholeCase : List Step
 wholeCase = enable ++ write 7 (18 ∷ 52 ∷ []) ++ ends ++ frame (3 ∷ 0 ∷ 0 ∷ [])
 
--- the same writes, with acts between that the table refuses
+-- L7. The same write, with acts between that the table refuses.
 abbrev refusedBetween : List Step
 refusedBetween =
     does select 1 ∷ does byte 6 ∷ does end 0 ∷ does up 0 ∷ does cut 256 ∷ waits 16777217 0 ++ enable
@@ -81,95 +81,63 @@ refusedBetween =
 
 pub ClosedRuns : Type 0
 ClosedRuns =
-    -- the whole case: 18 goes to 07h, 52 rolls to 00h, and the places beside them, 08h of the next page too, get nothing
+    -- T10, E13. The whole case: 18 goes to 07h, 52 rolls to 00h, and the places beside them, 08h of the next page too, get nothing.
     (eepromAfter 2 wholeCase (0x07 ∷ 0x00 ∷ 0x06 ∷ 0x01 ∷ 0x08 ∷ []) ≡ 18 ∷ 52 ∷ 255 ∷ 255 ∷ 255 ∷ [])
-    -- the same with refused acts between
+    -- L7, A34. The same with refused acts between.
     × (eepromAfter 2 refusedBetween (0x07 ∷ 0x00 ∷ 0x01 ∷ []) ≡ 18 ∷ 52 ∷ 255 ∷ [])
-    -- the enable is forgotten
+    -- F23. The enable is forgotten.
     × (eepromAfter 2 (write 0x00 (1 ∷ []) ++ idle) (0x00 ∷ []) ≡ 255 ∷ [])
-    -- an enable with a second byte, or with three bits more, is none
+    -- F19. An enable with a second byte, or with three bits more, is none.
     × (eepromAfter 2 (frame (0x06 ∷ 0x00 ∷ []) ++ write 0x00 (1 ∷ []) ++ idle) (0x00 ∷ []) ≡ 255 ∷ [])
     × (eepromAfter 2 (ragged 3 (0x06 ∷ []) ++ write 0x00 (1 ∷ []) ++ idle) (0x00 ∷ []) ≡ 255 ∷ [])
-    -- EEWRDI takes the enable back
+    -- F19. EEWRDI takes the enable back.
     × (eepromAfter 2 (enable ++ frame (0x04 ∷ []) ++ write 0x00 (1 ∷ []) ++ idle) (0x00 ∷ []) ≡ 255 ∷ [])
-    -- seven bits left over after the data: no cycle, and WEL is clear for the write that follows
+    -- F25, F30, E18. Seven bits more after the data: no cycle, and WEL is clear for the write that follows.
     × (eepromAfter 2 (enable ++ ragged 7 (0x02 ∷ 0x00 ∷ 1 ∷ []) ++ write 0x01 (2 ∷ []) ++ idle) (0x00 ∷ 0x01 ∷ []) ≡ 255 ∷ 255 ∷ [])
-    -- an address with no data byte: no cycle, and WEL stays set for the write that follows
+    -- F24, F30. An address and no data: no cycle, and WEL stays set for the write that follows.
     × (eepromAfter 2 (enable ++ write 0x00 [] ++ write 0x01 (2 ∷ []) ++ ends) (0x00 ∷ 0x01 ∷ []) ≡ 255 ∷ 2 ∷ [])
-    -- a page rolls: from 0Eh the third byte goes to 08h and not to 10h; a ninth byte replaces the first
+    -- F21, F22, E21. A page rolls: from 0Eh the third byte goes to 08h and not to 10h; a ninth byte takes the place of the first.
     × (eepromAfter 2 (enable ++ write 0x0e (1 ∷ 2 ∷ 3 ∷ []) ++ ends) (0x0e ∷ 0x0f ∷ 0x08 ∷ 0x10 ∷ []) ≡ 1 ∷ 2 ∷ 3 ∷ 255 ∷ [])
     × (eepromAfter 2 (enable ++ write 0x08 (1 ∷ 2 ∷ 3 ∷ 4 ∷ 5 ∷ 6 ∷ 7 ∷ 8 ∷ 9 ∷ []) ++ ends) (0x08 ∷ 0x09 ∷ 0x0f ∷ 0x10 ∷ []) ≡ 9 ∷ 2 ∷ 8 ∷ 255 ∷ [])
-    -- a 1 Kbit part drops address bit 7
+    -- F8. Bit 7 of an address does not count on a 1 Kbit part.
     × (eepromAfter 1 (enable ++ write 0x85 (1 ∷ []) ++ ends) (0x05 ∷ 0x85 ∷ []) ≡ 1 ∷ 255 ∷ [])
-    -- after a status cycle with BP 01, BFh is free and C0h protected, on a 1 Kbit part 5Fh and 60h
+    -- F26, F29, E14, E15. After a status cycle with BP 01, BFh is free and C0h is not, on a 1 Kbit part 5Fh and 60h.
     × (eepromAfter 2 (enable ++ status 0x04 ++ ends ++ enable ++ write 0xbf (1 ∷ []) ++ ends ++ enable ++ write 0xc0 (2 ∷ []) ++ idle) (0xbf ∷ 0xc0 ∷ []) ≡ 1 ∷ 255 ∷ [])
     × (eepromAfter 3 (enable ++ status 0x04 ++ ends ++ enable ++ write 0x5f (1 ∷ []) ++ ends ++ enable ++ write 0x60 (2 ∷ []) ++ idle) (0x5f ∷ 0x60 ∷ []) ≡ 1 ∷ 255 ∷ [])
-    -- BP changes at the 164th tick and not at the 163rd, by bits 3 and 2; two data bytes start no status cycle
+    -- F6, F24, F28, E16. BP is bits 3 and 2 of the byte from the 164th tick on, not from the 163rd; two data bytes start no cycle.
     × (bpFound 2 (enable ++ status 0xfb ++ waits 163 163) ≡ 0)
     × (bpFound 2 (enable ++ status 0xfb ++ waits 163 163 ++ waits 1 1) ≡ 2)
     × (bpFound 2 (enable ++ frame (0x01 ∷ 0x0c ∷ 0x0c ∷ []) ++ idle) ≡ 0)
-    -- a cut with mask 05h stores offsets 0 and 2 of three loaded; up and a wait bring no more
+    -- P1, P2, P5, L14. A cut with mask 05h stores offsets 0 and 2 of three loaded; up and a wait bring no more.
     × (eepromAfter 2 (enable ++ write 0x20 (1 ∷ 2 ∷ 3 ∷ []) ++ waits 100 100 ++ does cut 0x05 ∷ does up 0 ∷ idle) (0x20 ∷ 0x21 ∷ 0x22 ∷ 0x23 ∷ []) ≡ 1 ∷ 255 ∷ 3 ∷ 255 ∷ [])
-    -- a status cycle that is cut goes by bit 0
+    -- P3. A status cycle that is cut goes by the mask's bit 0.
     × (bpFound 2 (enable ++ status 0x0c ++ does cut 0x01 ∷ []) ≡ 3)
     × (bpFound 2 (enable ++ status 0x0c ++ does cut 0xfe ∷ []) ≡ 0)
-    -- a cut clears WEL, and drops an open frame
+    -- P6, P8. A cut takes the enable, and an open frame.
     × (eepromAfter 2 (enable ++ does cut 0 ∷ does up 0 ∷ write 0x00 (1 ∷ []) ++ idle) (0x00 ∷ []) ≡ 255 ∷ [])
     × (eepromAfter 2 (enable ++ does select 0 ∷ does byte 2 ∷ does byte 0 ∷ does byte 1 ∷ does cut 255 ∷ does up 0 ∷ does end 0 ∷ idle) (0x00 ∷ []) ≡ 255 ∷ [])
-    -- the lock is opened, an SRREAD and an EEWREN between, and used: address 15h is ID place 05h; EEPROM 05h gets nothing
+    -- F9, F27, F33, F36, L5. The lock is opened, an SRREAD and an EEWREN between, and used: address 15h is ID place 05h, and EEPROM 05h
+    -- gets nothing.
     × (idAfter 2 (unlock 0x55 ++ frame (0x05 ∷ 0x00 ∷ []) ++ unlock 0xaa ++ enable ++ idWrite 0x15 (1 ∷ []) ++ ends) (0x05 ∷ 0x06 ∷ []) ≡ 1 ∷ 255 ∷ [])
     × (eepromAfter 2 (unlock 0x55 ++ unlock 0xaa ++ enable ++ idWrite 0x05 (1 ∷ []) ++ ends) (0x05 ∷ []) ≡ 255 ∷ [])
-    -- the lock is not opened at all
+    -- F27. The lock is not opened at all.
     × (idAfter 2 (enable ++ idWrite 0x05 (1 ∷ []) ++ idle) (0x05 ∷ []) ≡ 255 ∷ [])
-    -- the lock is closed by a frame between the steps or after them, by IDWRITE itself, and by a first step anew
+    -- F34, F35, F36. The lock is closed by a frame between the steps or after them, by IDWRITE itself, and by a first step anew.
     × (idAfter 2 (unlock 0x55 ++ read ++ unlock 0xaa ++ enable ++ idWrite 0x05 (1 ∷ []) ++ idle) (0x05 ∷ []) ≡ 255 ∷ [])
     × (idAfter 2 (unlock 0x55 ++ unlock 0xaa ++ read ++ enable ++ idWrite 0x05 (1 ∷ []) ++ idle) (0x05 ∷ []) ≡ 255 ∷ [])
     × (idAfter 2 (unlock 0x55 ++ unlock 0xaa ++ enable ++ idWrite 0x05 (1 ∷ []) ++ ends ++ enable ++ idWrite 0x05 (2 ∷ []) ++ idle) (0x05 ∷ []) ≡ 1 ∷ [])
     × (idAfter 2 (unlock 0x55 ++ unlock 0xaa ++ unlock 0x55 ++ enable ++ idWrite 0x05 (1 ∷ []) ++ idle) (0x05 ∷ []) ≡ 255 ∷ [])
-    -- neither an enable nor a write is heard while a cycle runs; the cycle comes to its end
+    -- F31, F32, L9. Neither an enable nor a write is heard while a cycle runs; the cycle comes to its end.
     × (eepromAfter 2 (enable ++ write 0x00 (1 ∷ []) ++ enable ++ write 0x01 (2 ∷ []) ++ ends) (0x00 ∷ 0x01 ∷ []) ≡ 1 ∷ 255 ∷ [])
-    -- a cycle uses up its enable
+    -- F28, L13. A cycle uses up its enable.
     × (eepromAfter 2 (enable ++ write 0x00 (1 ∷ []) ++ ends ++ write 0x01 (2 ∷ []) ++ idle) (0x00 ∷ 0x01 ∷ []) ≡ 1 ∷ 255 ∷ [])
-    -- a byte changes at the 164th tick and not at the 163rd
+    -- F28, E16, L12, L13. A byte is stored by the 164th tick and not by the 163rd.
     × (eepromAfter 2 (enable ++ write 0x00 (1 ∷ []) ++ waits 163 163) (0x00 ∷ []) ≡ 255 ∷ [])
     × (eepromAfter 2 (enable ++ write 0x00 (1 ∷ []) ++ waits 163 163 ++ waits 1 1) (0x00 ∷ []) ≡ 1 ∷ [])
-    -- of a byte written twice the second stands
+    -- L16. Of a byte written twice the second stands.
     × (eepromAfter 2 (enable ++ write 0x00 (1 ∷ 2 ∷ []) ++ ends ++ enable ++ write 0x00 (3 ∷ []) ++ ends) (0x00 ∷ 0x01 ∷ []) ≡ 3 ∷ 2 ∷ [])
 
+-- Each run computes. A refusal names the parts that do not, counted from 0.
 pub closed-runs : ClosedRuns
 unfolding ClosedRuns ledgerRun follow refused onSelect onByte onEnd ticked waited finished onWait onCut onUp firstByte laterByte carried cycleOf welAfter lockAfter isLoaded loadedByte entriesUnder entriesAfter bpAfter byteOf noByte noCycle start sends foundAt
-closed-runs = (
-  refl,
-  refl,
-  refl,
-  refl,
-  refl,
-  refl,
-  refl,
-  refl,
-  refl,
-  refl,
-  refl,
-  refl,
-  refl,
-  refl,
-  refl,
-  refl,
-  refl,
-  refl,
-  refl,
-  refl,
-  refl,
-  refl,
-  refl,
-  refl,
-  refl,
-  refl,
-  refl,
-  refl,
-  refl,
-  refl,
-  refl,
-  refl,
-  refl,
-)
+closed-runs = search depth 1

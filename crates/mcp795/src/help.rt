@@ -59,11 +59,11 @@ fn print_refusals() -> bool {
         libc::STDOUT_FILENO,
         b"
     R  refused because
-    1  select while selected
-    2  byte or end while not selected
-    3  the act does not take this number, or there is no such part
+    1  select, and a frame is open already
+    2  byte or end, and no frame is open
+    3  the act does not take this argument, or there is no such part
     4  a memory has not the part's length (no tape causes it)
-    5  select, byte, end or cut while power is off; up while it is on
+    5  there is no power for select, byte, end or cut; or there is, and it is up
     6  the chip's record is out of range (no tape causes it)
     7  the line is not of the form, comes before a part, or names a part again
 

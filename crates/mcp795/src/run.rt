@@ -135,7 +135,7 @@ fn read_all(
 pub fn run_tape(fd: i32, name: &[u8]) -> bool {
     let mut input = io::large_buffer();
     let mut out = io::large_buffer();
-    let mut line = [0u8; tape::chunk::KEPT_LIMIT];
+    let mut line = [0u8; tape::chunk::HEAD_LIMIT];
     let mut eeprom = [0u8; tape::chunk::EEPROM_ROOM];
     let mut id = [0u8; tape::chunk::ID_SIZE];
     read_all(

@@ -1,34 +1,14 @@
 // The number of each case of each enum, and the value that it carries: what a byte on the wire or a saved form has for it.
 use record::Act;
-use record::Code;
 use record::Lock;
+use record::Long;
+use record::Pair;
+use record::Place;
 use record::Reply;
 use record::Stage;
 use record::Target;
 ghost use mathlib.Core.Path.{_≡_};
-ghost use Rattle.record.specs.Numbers.{codeNumber, actNumber, lockOf, lockNumber, replyNumber, stageKind, stageValue, targetKind, targetValue};
-
-// The byte of a code; 00h, which is none of the thirteen, for any other.
-pub fn code_number(code: Code) -> u8
-    ensures { λ r. ⌜ r ≡ codeNumber code ⌝ }
-{
-    match code {
-        Code::Eeread => 0x03,
-        Code::Eewrite => 0x02,
-        Code::Eewrdi => 0x04,
-        Code::Eewren => 0x06,
-        Code::Srread => 0x05,
-        Code::Srwrite => 0x01,
-        Code::Read => 0x13,
-        Code::Write => 0x12,
-        Code::Unlock => 0x14,
-        Code::Idwrite => 0x32,
-        Code::Idread => 0x33,
-        Code::Clrwdt => 0x44,
-        Code::Clrram => 0x54,
-        Code::Other => 0x00,
-    }
-}
+ghost use Rattle.record.specs.Numbers.{actNumber, lockOf, lockNumber, replyNumber, placeKind, placeValue, pairKind, pairValue, longKind, stageKind, stageCase, stageValue, targetKind, targetValue};
 
 pub fn act_number(act: Act) -> u8
     ensures { λ r. ⌜ r ≡ actNumber act ⌝ }
@@ -74,6 +54,65 @@ pub fn reply_number(reply: Reply) -> u16
     }
 }
 
+// A place by its memory, and its address.
+pub fn place_kind(place: Place) -> u8
+    ensures { λ r. ⌜ r ≡ placeKind place ⌝ }
+{
+    match place {
+        Place::EepromAt(_) => 0,
+        Place::ClockAt(_) => 1,
+        Place::IdAt(_) => 2,
+    }
+}
+
+pub fn place_value(place: Place) -> u8
+    ensures { λ r. ⌜ r ≡ placeValue place ⌝ }
+{
+    match place {
+        Place::EepromAt(a) => a.0,
+        Place::ClockAt(a) => a.0,
+        Place::IdAt(a) => a.0,
+    }
+}
+
+// What a second byte brought, by its code, and the byte, 0 where it does not matter.
+pub fn pair_kind(pair: Pair) -> u8
+    ensures { λ r. ⌜ r ≡ pairKind pair ⌝ }
+{
+    match pair {
+        Pair::StatusData(_) => 0,
+        Pair::UnlockData(_) => 1,
+        Pair::ClearWatchdog => 2,
+        Pair::ClearRam => 3,
+    }
+}
+
+pub fn pair_value(pair: Pair) -> u8
+    ensures { λ r. ⌜ r ≡ pairValue pair ⌝ }
+{
+    match pair {
+        Pair::StatusData(v) => v,
+        Pair::UnlockData(v) => v,
+        Pair::ClearWatchdog => 0,
+        Pair::ClearRam => 0,
+    }
+}
+
+// A code with a byte too many.
+pub fn long_kind(long: Long) -> u8
+    ensures { λ r. ⌜ r ≡ longKind long ⌝ }
+{
+    match long {
+        Long::StatusOver => 0,
+        Long::UnlockOver => 1,
+        Long::WatchdogOver => 2,
+        Long::RamOver => 3,
+        Long::EnableOver => 4,
+        Long::DisableOver => 5,
+    }
+}
+
+// A stage by its kind, by which of its cases it is, and by what that case carries.
 pub fn stage_kind(stage: Stage) -> u8
     ensures { λ r. ⌜ r ≡ stageKind stage ⌝ }
 {
@@ -82,40 +121,40 @@ pub fn stage_kind(stage: Stage) -> u8
         Stage::Opened => 1,
         Stage::Unheard => 2,
         Stage::Instruction(_) => 3,
-        Stage::EepromRead(_) => 4,
-        Stage::EepromWrite(_) => 5,
-        Stage::ClockRead(_) => 6,
-        Stage::ClockWrite(_) => 7,
-        Stage::IdRead(_) => 8,
-        Stage::IdWrite(_) => 9,
-        Stage::StatusWrite(_) => 10,
-        Stage::StatusWriteMore => 11,
-        Stage::UnlockSecond(_) => 12,
-        Stage::UnlockMore => 13,
-        Stage::WatchdogSecond => 14,
-        Stage::WatchdogMore => 15,
-        Stage::RamSecond => 16,
-        Stage::RamMore => 17,
-        Stage::EnableMore => 18,
-        Stage::DisableMore => 19,
+        Stage::Reading(_) => 4,
+        Stage::Writing(_) => 5,
+        Stage::Second(_) => 6,
+        Stage::Over(_) => 7,
     }
 }
 
-// The value that a stage carries, 0 where there is none.
+pub fn stage_case(stage: Stage) -> u8
+    ensures { λ r. ⌜ r ≡ stageCase stage ⌝ }
+{
+    match stage {
+        Stage::Idle => 0,
+        Stage::Opened => 0,
+        Stage::Unheard => 0,
+        Stage::Instruction(c) => c.number(),
+        Stage::Reading(p) => place_kind(p),
+        Stage::Writing(p) => place_kind(p),
+        Stage::Second(q) => pair_kind(q),
+        Stage::Over(l) => long_kind(l),
+    }
+}
+
 pub fn stage_value(stage: Stage) -> u8
     ensures { λ r. ⌜ r ≡ stageValue stage ⌝ }
 {
     match stage {
-        Stage::Instruction(c) => code_number(c),
-        Stage::EepromRead(a) => a.0,
-        Stage::EepromWrite(a) => a.0,
-        Stage::ClockRead(a) => a.0,
-        Stage::ClockWrite(a) => a.0,
-        Stage::IdRead(a) => a.0,
-        Stage::IdWrite(a) => a.0,
-        Stage::StatusWrite(v) => v,
-        Stage::UnlockSecond(v) => v,
-        _ => 0,
+        Stage::Idle => 0,
+        Stage::Opened => 0,
+        Stage::Unheard => 0,
+        Stage::Instruction(_) => 0,
+        Stage::Reading(p) => place_value(p),
+        Stage::Writing(p) => place_value(p),
+        Stage::Second(q) => pair_value(q),
+        Stage::Over(_) => 0,
     }
 }
 

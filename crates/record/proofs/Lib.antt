@@ -1,3 +1,4 @@
+pub mod CodeLaws
 pub mod NumberLaws
 pub mod PartLaws
 pub mod StageLaws

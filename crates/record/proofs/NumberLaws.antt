@@ -5,36 +5,25 @@ use Prim.Native.Nat.{ℕ, _<_}
 use native.Mathlib.Omega.{arith}
 use mathlib.Core.Path.{_≡_, refl, ap}
 use borrow.Author.Tests.{ne-eqb}
-use Rattle.record.specs.declared.Code.{Code}
-use Rattle.record.specs.declared.Code.the-variants.{Eeread, Eewrite, Eewrdi, Eewren, Srread, Srwrite, Read, Write, Unlock, Idwrite, Idread, Clrwdt, Clrram, Other}
 use Rattle.record.specs.declared.Protection.{Protection}
 use Rattle.record.specs.declared.Protection.the-variants.{Nothing, Quarter, Half, All}
 use Rattle.record.specs.declared.Lock.{Lock}
 use Rattle.record.specs.declared.Lock.the-variants.{Closed, First, Open}
 use Rattle.record.specs.declared.Act.{Act}
 use Rattle.record.specs.declared.Act.the-variants.{Select, Byte, End, Wait, Cut, Up}
+use Rattle.record.specs.declared.Place.{Place}
+use Rattle.record.specs.declared.Place.the-variants.{EepromAt, ClockAt, IdAt}
+use Rattle.record.specs.declared.Pair.{Pair}
+use Rattle.record.specs.declared.Pair.the-variants.{StatusData, UnlockData, ClearWatchdog, ClearRam}
+use Rattle.record.specs.declared.Long.{Long}
+use Rattle.record.specs.declared.Long.the-variants.{StatusOver, UnlockOver, WatchdogOver, RamOver, EnableOver, DisableOver}
 use Rattle.record.specs.declared.Stage.{Stage}
-use Rattle.record.specs.declared.Stage.the-variants.{Idle, Opened, Unheard, Instruction, EepromRead, EepromWrite, ClockRead, ClockWrite, IdRead, IdWrite, StatusWrite, StatusWriteMore, UnlockSecond, UnlockMore, WatchdogSecond, WatchdogMore, RamSecond, RamMore, EnableMore, DisableMore}
+use Rattle.record.specs.declared.Stage.the-variants.{Idle, Opened, Unheard, Instruction, Reading, Writing, Second, Over}
 use Rattle.record.specs.declared.Target.{Target}
 use Rattle.record.specs.declared.Target.the-variants.{Eeprom, Id, Status}
 use Rattle.record.specs.declared.Reply.the-variants.{Driven, Off}
-use Rattle.record.specs.Numbers.{codeOf, codeNumber, protectionOf, protectionNumber, lockOf, lockNumber, actOf, actNumber, stageOf, stageKind, stageValue, targetOf, targetKind, targetValue, replyOf, replyNumber}
-
-pub code-back : (x : Code) → codeOf (codeNumber x) ≡ x
-code-back Eeread = refl
-code-back Eewrite = refl
-code-back Eewrdi = refl
-code-back Eewren = refl
-code-back Srread = refl
-code-back Srwrite = refl
-code-back Read = refl
-code-back Write = refl
-code-back Unlock = refl
-code-back Idwrite = refl
-code-back Idread = refl
-code-back Clrwdt = refl
-code-back Clrram = refl
-code-back Other = refl
+use Rattle.record.specs.Numbers.{protectionOf, protectionNumber, lockOf, lockNumber, actOf, actNumber, placeOf, placeKind, placeValue, pairOf, pairKind, pairValue, longOf, longKind, stageOf, stageKind, stageCase, stageValue, targetOf, targetKind, targetValue, replyOf, replyNumber}
+use Rattle.record.proofs.CodeLaws.{code-back}
 
 pub protection-back : (x : Protection) → protectionOf (protectionNumber x) ≡ x
 protection-back Nothing = refl
@@ -61,27 +50,34 @@ act-back Wait = refl
 act-back Cut = refl
 act-back Up = refl
 
-pub stage-back : (s : Stage) → stageOf (stageKind s) (stageValue s) ≡ s
+pub place-back : (p : Place) → placeOf (placeKind p) (placeValue p) ≡ p
+place-back (EepromAt a) = refl
+place-back (ClockAt a) = refl
+place-back (IdAt a) = refl
+
+pub pair-back : (q : Pair) → pairOf (pairKind q) (pairValue q) ≡ q
+pair-back (StatusData v) = refl
+pair-back (UnlockData v) = refl
+pair-back ClearWatchdog = refl
+pair-back ClearRam = refl
+
+pub long-back : (l : Long) → longOf (longKind l) ≡ l
+long-back StatusOver = refl
+long-back UnlockOver = refl
+long-back WatchdogOver = refl
+long-back RamOver = refl
+long-back EnableOver = refl
+long-back DisableOver = refl
+
+pub stage-back : (s : Stage) → stageOf (stageKind s) (stageCase s) (stageValue s) ≡ s
 stage-back Idle = refl
 stage-back Opened = refl
 stage-back Unheard = refl
 stage-back (Instruction c) = ap Instruction (code-back c)
-stage-back (EepromRead a) = refl
-stage-back (EepromWrite a) = refl
-stage-back (ClockRead a) = refl
-stage-back (ClockWrite a) = refl
-stage-back (IdRead a) = refl
-stage-back (IdWrite a) = refl
-stage-back (StatusWrite v) = refl
-stage-back StatusWriteMore = refl
-stage-back (UnlockSecond v) = refl
-stage-back UnlockMore = refl
-stage-back WatchdogSecond = refl
-stage-back WatchdogMore = refl
-stage-back RamSecond = refl
-stage-back RamMore = refl
-stage-back EnableMore = refl
-stage-back DisableMore = refl
+stage-back (Reading p) = ap Reading (place-back p)
+stage-back (Writing p) = ap Writing (place-back p)
+stage-back (Second q) = ap Second (pair-back q)
+stage-back (Over l) = ap Over (long-back l)
 
 pub target-back : (t : Target) → targetOf (targetKind t) (targetValue t) ≡ t
 target-back (Eeprom a) = refl

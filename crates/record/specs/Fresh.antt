@@ -1,5 +1,5 @@
--- A fresh chip (01's term). Document 01, "Acts and refusal numbers": power on, not selected, SRAM and registers 0 but day,
--- date and month 01h; STATUS 0, locked, all counts 0. Both memories are filled with FFh; they are no part of the record.
+-- A35, A36. A fresh chip's record (fresh is 01's term): powered and idle; each register, SRAM byte and count is 0, save 01h in day, date and
+-- month; STATUS is clear, the lock closed. The memories are no part of it: World has them.
 -- Assumes nothing.
 use Prim.Native.Nat.{ℕ}
 use mathlib.Core.Bool.{true, false}

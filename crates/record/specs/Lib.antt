@@ -1,6 +1,11 @@
 pub mod Part
 pub mod Registers
 pub mod Address
+pub mod Codes
 pub mod Stages
 pub mod Numbers
+pub mod Setters
 pub mod Fresh
+pub mod World
+pub mod Stored
+pub mod Scene

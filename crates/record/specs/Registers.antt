@@ -1,9 +1,13 @@
--- The registers' addresses, by the sheet's names (000, table 4-1), their masks, and the watchdog's periods.
+-- The registers' addresses and bits, by the sheet's names (000, table 4-1), their masks, the watchdog's periods and the limits.
 -- Not what a write or a tick does with them.
 -- Assumes nothing.
-use Prim.Native.Nat.{ℕ, _-_, _%_}
+use Prim.Native.Nat.{ℕ, _-_, _/_, _%_}
+use mathlib.Core.Bool.{Bool}
 use mathlib.Core.List.{List, [], _∷_}
+use lib.Dec.{eqb}
 use lib.ListN.{getD}
+use Rattle.base.specs.Words.{bit}
+use Rattle.record.specs.declared.Counters.{Counters}
 
 abbrev pub hundredthsAt : ℕ
 hundredthsAt = 0x00
@@ -35,7 +39,7 @@ controlAt = 0x08
 abbrev pub watchdogAt : ℕ
 watchdogAt = 0x0a
 
--- An alarm's register of its flag (bit 3), its code (bits 6:4) and its pin (bit 7).
+-- the register of each alarm's flag, code and pin
 abbrev pub alarm0At : ℕ
 alarm0At = 0x0f
 
@@ -55,7 +59,55 @@ alarm0HoursAt = 0x0e
 abbrev pub alarm1HoursAt : ℕ
 alarm1HoursAt = 0x15
 
--- Document 01, "Frames": the mask of writable bits, 00h to 1Fh.
+-- The bits of the registers that a rule reads.
+
+-- 01h bit 7, ST; on B parts the sheet calls it CT
+abbrev pub st : List ℕ → Bool
+st regs = bit (getD regs secondsAt 0) 7
+
+-- 03h bit 6, 12/24: set for the 12-hour form
+abbrev pub twelve : List ℕ → Bool
+twelve regs = bit (getD regs hoursAt 0) 6
+
+-- 04h bit 3, VBATEN
+abbrev pub vbaten : List ℕ → Bool
+vbaten regs = bit (getD regs dayAt 0) 3
+
+-- An alarm: the number of its enable bit in 08h (ALM0 is bit 4, ALM1 bit 5) and the register of its flag.
+abbrev pub alm0 : ℕ
+alm0 = 4
+
+abbrev pub alm1 : ℕ
+alm1 = 5
+
+-- K19. an alarm is active
+abbrev pub active : List ℕ → ℕ → Bool
+active regs k = bit (getD regs controlAt 0) k
+
+-- of an alarm's flag register: bit 7 its pin, bits 6:4 its code, bit 3 its flag
+abbrev pub almPin : List ℕ → ℕ → Bool
+almPin regs a = bit (getD regs a 0) 7
+
+abbrev pub almCode : List ℕ → ℕ → ℕ
+almCode regs a = getD regs a 0 / 16 % 8
+
+abbrev pub almIf : List ℕ → ℕ → Bool
+almIf regs a = bit (getD regs a 0) 3
+
+-- of a value of 0Ah: bit 7 WDTEN, bit 6 WDTIF, bit 5 WDDEL, bit 4 WDTPLS
+abbrev pub wdten : ℕ → Bool
+wdten v = bit v 7
+
+abbrev pub wdtif : ℕ → Bool
+wdtif v = bit v 6
+
+abbrev pub wddel : ℕ → Bool
+wddel v = bit v 5
+
+abbrev pub wdtpls : ℕ → Bool
+wdtpls v = bit v 4
+
+-- F13, C5. The bits of each register that WRITE may set, 00h to 1Fh.
 abbrev pub writable : List ℕ
 writable =
     0xff ∷ 0xff ∷ 0x7f ∷ 0xff ∷ 0x1f ∷ 0x3f ∷ 0x1f ∷ 0xff
@@ -63,44 +115,50 @@ writable =
     ∷ 0x3f ∷ 0x1f ∷ 0xff ∷ 0x7f ∷ 0x7f ∷ 0x3f ∷ 0xff ∷ 0x3f
     ∷ 0 ∷ 0 ∷ 0 ∷ 0 ∷ 0 ∷ 0 ∷ 0 ∷ 0 ∷ []
 
--- The bits that a register may hold, which number 6 judges: today those that are writable.
+-- F17. The bits that a register may hold, which number 6 judges: today those that WRITE may set.
 abbrev pub kept : List ℕ
 kept = writable
 
--- Document 01, "Calendar and ticks": watchdog periods by bits 2:0 of 0Ah, in ticks; bit 3 ignored.
+-- K23. The watchdog's eight periods in ticks.
 abbrev pub periods : List ℕ
 periods = 32 ∷ 512 ∷ 2048 ∷ 4096 ∷ 32768 ∷ 524288 ∷ 1048576 ∷ 2097152 ∷ []
 
--- the period that a value of 0Ah sets
+-- K23. The period that a value of 0Ah sets, by its bits 2:0.
 abbrev pub periodOf : ℕ → ℕ
 periodOf v = getD periods (v % 8) 0
 
--- The limits, each named once. A cycle lasts 164 ticks (bench, 5 ms rounded up).
+-- The limits, each named once.
+
+-- F28. the ticks of a write cycle (bench)
 abbrev pub cycleTicks : ℕ
 cycleTicks = 164
 
--- OSCON sets at the 32nd asked tick
+-- K3. the asked ticks until OSCON sets
 abbrev pub startupTicks : ℕ
 startupTicks = 32
 
--- 32,768 ticks a second, and the largest divider
+-- F15. OSCON is set while the start-up count stands at its end
+abbrev pub oscon : Counters → Bool
+oscon c = eqb (c .startup) startupTicks
+
+-- A2. the ticks of a second, and the largest divider
 abbrev pub dividerTicks : ℕ
 dividerTicks = 32768
 
 abbrev pub dividerLast : ℕ
 dividerLast = dividerTicks - 1
 
--- the pulse on WDO, 122 us and 125 ms
+-- K25. the pulse on WDO, 122 us and 125 ms
 abbrev pub shortPulse : ℕ
 shortPulse = 4
 
 abbrev pub longPulse : ℕ
 longPulse = 4096
 
--- the watchdog's delay, 64 s
+-- K27. the watchdog's delay, 64 s
 abbrev pub delayTicks : ℕ
 delayTicks = 2097152
 
--- the longest wait
+-- A11. the longest wait
 abbrev pub waitLimit : ℕ
 waitLimit = 16777216

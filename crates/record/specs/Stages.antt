@@ -1,14 +1,21 @@
--- What a stage of the frame tells, and what a cycle's target does: whether a frame is open, whether its code is heard under WIP, and its
--- pointers. Document 01, "Acts and refusal numbers" and "Frames".
+-- What a stage of the frame tells: whether a frame is open and heard, the code that it belongs to, and where its pointer stands. Not where
+-- a byte takes it, nor what its end does.
 -- Assumes nothing.
 use Prim.Native.Nat.{ℕ}
-use mathlib.Core.Bool.{Bool, true, false, not}
+use mathlib.Core.Bool.{Bool, true, false, not, _&&_}
 use Rattle.record.specs.declared.Code.{Code}
-use Rattle.record.specs.declared.Code.the-variants.{Eeread, Eewrite, Eewrdi, Eewren, Srread, Srwrite, Read, Write, Unlock, Idwrite, Idread, Clrwdt, Clrram, Other}
+use Rattle.record.specs.declared.Code.the-variants.{Eeread, Eewrite, Eewrdi, Eewren, Srwrite, Read, Write, Unlock, Idwrite, Idread, Clrwdt, Clrram, Other}
+use Rattle.record.specs.declared.Place.{Place}
+use Rattle.record.specs.declared.Place.the-variants.{EepromAt, ClockAt, IdAt}
+use Rattle.record.specs.declared.Pair.{Pair}
+use Rattle.record.specs.declared.Pair.the-variants.{StatusData, UnlockData, ClearWatchdog, ClearRam}
+use Rattle.record.specs.declared.Long.{Long}
+use Rattle.record.specs.declared.Long.the-variants.{StatusOver, UnlockOver, WatchdogOver, RamOver, EnableOver, DisableOver}
 use Rattle.record.specs.declared.Stage.{Stage}
-use Rattle.record.specs.declared.Stage.the-variants.{Idle, Opened, Unheard, Instruction, EepromRead, EepromWrite, ClockRead, ClockWrite, IdRead, IdWrite, StatusWrite, StatusWriteMore, UnlockSecond, UnlockMore, WatchdogSecond, WatchdogMore, RamSecond, RamMore, EnableMore, DisableMore}
+use Rattle.record.specs.declared.Stage.the-variants.{Idle, Opened, Unheard, Instruction, Reading, Writing, Second, Over}
 use Rattle.record.specs.declared.Target.{Target}
 use Rattle.record.specs.declared.Target.the-variants.{Eeprom, Id, Status}
+use Rattle.record.specs.Codes.{heardUnderWip}
 
 -- a frame is open: the chip is selected
 abbrev pub selected : Stage → Bool
@@ -16,114 +23,109 @@ selected Idle = false
 selected Opened = true
 selected Unheard = true
 selected (Instruction c) = true
-selected (EepromRead a) = true
-selected (EepromWrite a) = true
-selected (ClockRead a) = true
-selected (ClockWrite a) = true
-selected (IdRead a) = true
-selected (IdWrite a) = true
-selected (StatusWrite v) = true
-selected StatusWriteMore = true
-selected (UnlockSecond v) = true
-selected UnlockMore = true
-selected WatchdogSecond = true
-selected WatchdogMore = true
-selected RamSecond = true
-selected RamMore = true
-selected EnableMore = true
-selected DisableMore = true
+selected (Reading p) = true
+selected (Writing p) = true
+selected (Second q) = true
+selected (Over l) = true
 
--- Document 01, "Frames": "If set, only SRREAD, READ, WRITE, CLRWDT, CLRRAM are heard" (WIP; heard is 01's term)
-abbrev pub heardUnderWip : Code → Bool
-heardUnderWip Eeread = false
-heardUnderWip Eewrite = false
-heardUnderWip Eewrdi = false
-heardUnderWip Eewren = false
-heardUnderWip Srread = true
-heardUnderWip Srwrite = false
-heardUnderWip Read = true
-heardUnderWip Write = true
-heardUnderWip Unlock = false
-heardUnderWip Idwrite = false
-heardUnderWip Idread = false
-heardUnderWip Clrwdt = true
-heardUnderWip Clrram = true
-heardUnderWip Other = false
+-- a frame is open whose first byte came and is heard (01's term)
+abbrev pub heard : Stage → Bool
+heard Idle = false
+heard Opened = false
+heard Unheard = false
+heard (Instruction c) = true
+heard (Reading p) = true
+heard (Writing p) = true
+heard (Second q) = true
+heard (Over l) = true
 
--- a heard frame is open whose code is not one of the five that are heard under WIP
+-- The code that a heard stage belongs to; Other where none is heard.
+abbrev pub readingCode : Place → Code
+readingCode (EepromAt a) = Eeread
+readingCode (ClockAt a) = Read
+readingCode (IdAt a) = Idread
+
+abbrev pub writingCode : Place → Code
+writingCode (EepromAt a) = Eewrite
+writingCode (ClockAt a) = Write
+writingCode (IdAt a) = Idwrite
+
+abbrev pub secondCode : Pair → Code
+secondCode (StatusData v) = Srwrite
+secondCode (UnlockData v) = Unlock
+secondCode ClearWatchdog = Clrwdt
+secondCode ClearRam = Clrram
+
+abbrev pub overCode : Long → Code
+overCode StatusOver = Srwrite
+overCode UnlockOver = Unlock
+overCode WatchdogOver = Clrwdt
+overCode RamOver = Clrram
+overCode EnableOver = Eewren
+overCode DisableOver = Eewrdi
+
+abbrev pub codeAt : Stage → Code
+codeAt Idle = Other
+codeAt Opened = Other
+codeAt Unheard = Other
+codeAt (Instruction c) = c
+codeAt (Reading p) = readingCode p
+codeAt (Writing p) = writingCode p
+codeAt (Second q) = secondCode q
+codeAt (Over l) = overCode l
+
+-- a heard frame is at its instruction byte: one byte came, and of SRREAD or a code of none one at least
+abbrev pub atInstruction : Stage → Bool
+atInstruction Idle = false
+atInstruction Opened = false
+atInstruction Unheard = false
+atInstruction (Instruction c) = true
+atInstruction (Reading p) = false
+atInstruction (Writing p) = false
+atInstruction (Second q) = false
+atInstruction (Over l) = false
+
+-- more bytes came than the code takes
+abbrev pub isOver : Stage → Bool
+isOver Idle = false
+isOver Opened = false
+isOver Unheard = false
+isOver (Instruction c) = false
+isOver (Reading p) = false
+isOver (Writing p) = false
+isOver (Second q) = false
+isOver (Over l) = true
+
+-- a heard frame is open whose code is not heard while a write cycle runs
 abbrev pub foreignToWip : Stage → Bool
-foreignToWip Idle = false
-foreignToWip Opened = false
-foreignToWip Unheard = false
-foreignToWip (Instruction c) = not (heardUnderWip c)
-foreignToWip (EepromRead a) = true
-foreignToWip (EepromWrite a) = true
-foreignToWip (ClockRead a) = false
-foreignToWip (ClockWrite a) = false
-foreignToWip (IdRead a) = true
-foreignToWip (IdWrite a) = true
-foreignToWip (StatusWrite v) = true
-foreignToWip StatusWriteMore = true
-foreignToWip (UnlockSecond v) = true
-foreignToWip UnlockMore = true
-foreignToWip WatchdogSecond = false
-foreignToWip WatchdogMore = false
-foreignToWip RamSecond = false
-foreignToWip RamMore = false
-foreignToWip EnableMore = true
-foreignToWip DisableMore = true
+foreignToWip s = heard s && not (heardUnderWip (codeAt s))
 
--- the ID pointer of a frame and of a cycle, and the EEPROM pointer of each; 0 where there is none
-abbrev pub idAt : Stage → ℕ
-idAt (IdRead a) = a .0
-idAt (IdWrite a) = a .0
-idAt Idle = 0
-idAt Opened = 0
-idAt Unheard = 0
-idAt (Instruction c) = 0
-idAt (EepromRead a) = 0
-idAt (EepromWrite a) = 0
-idAt (ClockRead a) = 0
-idAt (ClockWrite a) = 0
-idAt (StatusWrite v) = 0
-idAt StatusWriteMore = 0
-idAt (UnlockSecond v) = 0
-idAt UnlockMore = 0
-idAt WatchdogSecond = 0
-idAt WatchdogMore = 0
-idAt RamSecond = 0
-idAt RamMore = 0
-idAt EnableMore = 0
-idAt DisableMore = 0
+-- Where the pointer of a frame stands, and that of a cycle. Where there is none it is clock address 00h: number 6 judges no clock address.
+abbrev pub noPlace : Place
+noPlace = ClockAt (record { 0 = 0 })
 
-abbrev pub eepromAt : Stage → ℕ
-eepromAt (EepromRead a) = a .0
-eepromAt (EepromWrite a) = a .0
-eepromAt Idle = 0
-eepromAt Opened = 0
-eepromAt Unheard = 0
-eepromAt (Instruction c) = 0
-eepromAt (ClockRead a) = 0
-eepromAt (ClockWrite a) = 0
-eepromAt (IdRead a) = 0
-eepromAt (IdWrite a) = 0
-eepromAt (StatusWrite v) = 0
-eepromAt StatusWriteMore = 0
-eepromAt (UnlockSecond v) = 0
-eepromAt UnlockMore = 0
-eepromAt WatchdogSecond = 0
-eepromAt WatchdogMore = 0
-eepromAt RamSecond = 0
-eepromAt RamMore = 0
-eepromAt EnableMore = 0
-eepromAt DisableMore = 0
+abbrev pub framePlace : Stage → Place
+framePlace Idle = noPlace
+framePlace Opened = noPlace
+framePlace Unheard = noPlace
+framePlace (Instruction c) = noPlace
+framePlace (Reading p) = p
+framePlace (Writing p) = p
+framePlace (Second q) = noPlace
+framePlace (Over l) = noPlace
 
-abbrev pub idIn : Target → ℕ
-idIn (Eeprom a) = 0
-idIn (Id a) = a .0
-idIn (Status p) = 0
+abbrev pub cyclePlace : Target → Place
+cyclePlace (Eeprom a) = EepromAt a
+cyclePlace (Id a) = IdAt a
+cyclePlace (Status p) = noPlace
 
-abbrev pub eepromIn : Target → ℕ
-eepromIn (Eeprom a) = a .0
-eepromIn (Id a) = 0
-eepromIn (Status p) = 0
+-- the ID pointer of a place, and its EEPROM pointer; 0 where it is of another memory
+abbrev pub idPointer : Place → ℕ
+idPointer (EepromAt a) = 0
+idPointer (ClockAt a) = 0
+idPointer (IdAt a) = a .0
+
+abbrev pub eepromPointer : Place → ℕ
+eepromPointer (EepromAt a) = a .0
+eepromPointer (ClockAt a) = 0
+eepromPointer (IdAt a) = 0

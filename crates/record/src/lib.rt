@@ -1,14 +1,13 @@
 // The chip's record: what a chip is between two acts. The registers and the SRAM are held in it by value; the two
 // memories, EEPROM and ID, are lent to each act and are no part of it.
-use part::ID_LAST;
-use part::ID_SIZE;
 use registers::DATE;
 use registers::DAY;
 use registers::MONTH;
 ghost use mathlib.Core.Path.{_≡_};
-ghost use Rattle.record.specs.Address.{rollEeprom, takenEeprom, rollId, takenId, rollClock, pageOf};
-ghost use Rattle.record.specs.Fresh.{freshRegs, fresh};
+ghost use Rattle.record.specs.Fresh.{freshRegs, freshCounters, fresh};
 
+pub mod address; // address.rt: how an address is taken and rolls over
+pub mod codes; // codes.rt: instruction codes
 pub mod number; // number.rt: the numbers of the enums' cases
 pub mod part; // part.rt: the four parts
 pub mod registers; // registers.rt: the registers' addresses and masks, the limits
@@ -41,28 +40,59 @@ pub enum Code {
     Other,
 }
 
-// How far a frame has come. Not selected is Idle; a frame that is not heard is a stage of its own.
+// Where the pointer of a frame stands, by the memory that it is for.
+pub enum Place {
+    EepromAt(EepromAddress),
+    ClockAt(ClockAddress),
+    IdAt(IdAddress),
+}
+
+// What the second byte of a code that takes no address brought.
+pub enum Pair {
+    // SRWRITE: the STATUS byte
+    StatusData(u8),
+    // UNLOCK: the step
+    UnlockData(u8),
+    // CLRWDT: nothing
+    ClearWatchdog,
+    // CLRRAM: nothing
+    ClearRam,
+}
+
+// A code with a byte more than it takes.
+pub enum Long {
+    // SRWRITE with a second data byte
+    StatusOver,
+    // UNLOCK with a third byte
+    UnlockOver,
+    // CLRWDT with a third byte
+    WatchdogOver,
+    // CLRRAM with a third byte
+    RamOver,
+    // EEWREN with a second byte
+    EnableOver,
+    // EEWRDI with a second byte
+    DisableOver,
+}
+
+// How far a frame has come.
 pub enum Stage {
+    // not selected
     Idle,
+    // selected, and no whole byte came
     Opened,
+    // the first byte came and is not heard; nor are those after it
     Unheard,
+    // a heard code; SRREAD and a code of none stay here however many bytes follow
     Instruction(Code),
-    EepromRead(EepromAddress),
-    EepromWrite(EepromAddress),
-    ClockRead(ClockAddress),
-    ClockWrite(ClockAddress),
-    IdRead(IdAddress),
-    IdWrite(IdAddress),
-    StatusWrite(u8),
-    StatusWriteMore,
-    UnlockSecond(u8),
-    UnlockMore,
-    WatchdogSecond,
-    WatchdogMore,
-    RamSecond,
-    RamMore,
-    EnableMore,
-    DisableMore,
+    // EEREAD, READ or IDREAD with its address: the next byte is answered from this place
+    Reading(Place),
+    // EEWRITE, WRITE or IDWRITE with its address: the next byte is data for this place
+    Writing(Place),
+    // the second byte of SRWRITE, UNLOCK, CLRWDT or CLRRAM
+    Second(Pair),
+    // more bytes than the code takes
+    Over(Long),
 }
 
 // What BP1 and BP0 protect.
@@ -148,81 +178,6 @@ pub enum Act {
     Up,
 }
 
-impl EepromAddress {
-    // The address byte as a part with this top address takes it: 1 Kbit drops bit 7.
-    pub fn taken(v: u8, top: EepromAddress) -> EepromAddress
-        ensures { λ r. ⌜ r ≡ takenEeprom (top .0) v ⌝ }
-    {
-        EepromAddress(v & top.0)
-    }
-
-    // From the top address the pointer rolls to 00h.
-    pub fn next(self, top: EepromAddress) -> EepromAddress
-        ensures { λ r. ⌜ r ≡ rollEeprom (top .0) self ⌝ }
-    {
-        let a = self.0;
-        if a < top.0 {
-            EepromAddress(a + 1)
-        } else {
-            EepromAddress(0)
-        }
-    }
-
-    // Where its page begins in the memory.
-    pub fn page(self) -> usize
-        ensures { λ r. ⌜ r ≡ pageOf (self .0) ⌝ }
-    {
-        (self.0 / 8 * 8) as usize
-    }
-}
-
-impl IdAddress {
-    // The address byte, modulo 16.
-    pub fn taken(v: u8) -> IdAddress
-        ensures { λ r. ⌜ r ≡ takenId v ⌝ }
-    {
-        IdAddress(v % ID_SIZE)
-    }
-
-    // From 0Fh the pointer rolls to 00h.
-    pub fn next(self) -> IdAddress
-        ensures { λ r. ⌜ r ≡ rollId self ⌝ }
-    {
-        let a = self.0;
-        if a < ID_LAST {
-            IdAddress(a + 1)
-        } else {
-            IdAddress(0)
-        }
-    }
-
-    // Where its page begins in the memory.
-    pub fn page(self) -> usize
-        ensures { λ r. ⌜ r ≡ pageOf (self .0) ⌝ }
-    {
-        (self.0 / 8 * 8) as usize
-    }
-}
-
-impl ClockAddress {
-    // Registers roll 1Fh to 00h, the SRAM 5Fh to 20h; from 60h up the pointer stays (bench).
-    pub fn next(self) -> ClockAddress
-        ensures { λ r. ⌜ r ≡ rollClock self ⌝ }
-    {
-        let a = self.0;
-        if a == 0x1f {
-            return ClockAddress(0);
-        }
-        if a == 0x5f {
-            return ClockAddress(0x20);
-        }
-        if a < 0x60 {
-            return ClockAddress(a + 1);
-        }
-        ClockAddress(a)
-    }
-}
-
 // The registers of a fresh chip: 0, but day, date and month 01h.
 pub fn fresh_regs() -> [u8; 32]
     ensures { λ r. ⌜ r ≡ freshRegs ⌝ }
@@ -234,21 +189,29 @@ pub fn fresh_regs() -> [u8; 32]
     regs
 }
 
+// Its counts, all 0.
+pub fn fresh_counters() -> Counters
+    ensures { λ r. ⌜ r ≡ freshCounters ⌝ }
+{
+    Counters {
+        divider: 0,
+        startup: 0,
+        watchdog: 0,
+        delay: 0,
+        pulse: 0,
+    }
+}
+
 // A fresh chip, the same for every part.
 pub fn fresh_device() -> Device
     ensures { λ r. ⌜ r ≡ fresh ⌝ }
 {
     let regs = fresh_regs();
+    let counters = fresh_counters();
     Device {
         regs,
         sram: [0u8; 64],
-        counters: Counters {
-            divider: 0,
-            startup: 0,
-            watchdog: 0,
-            delay: 0,
-            pulse: 0,
-        },
+        counters,
         power: true,
         guard: Guard {
             wel: false,

@@ -1,32 +1,10 @@
-// The numbers of the cases of the enums that come from a byte: codes, acts, the protection bits.
+// The numbers of the cases of the enums that come from a byte: acts, the protection bits.
 use crate::Act;
-use crate::Code;
 use crate::Protection;
 ghost use mathlib.Core.Path.{_≡_};
-ghost use Rattle.record.specs.Numbers.{codeOf, actOf, protectionOf, protectionNumber};
+ghost use Rattle.record.specs.Numbers.{actOf, protectionOf, protectionNumber};
 
-// The instruction code of a byte (the sheet's table 3-1).
-pub fn code_of(b: u8) -> Code
-    ensures { λ r. ⌜ r ≡ codeOf b ⌝ }
-{
-    match b {
-        0x03 => Code::Eeread,
-        0x02 => Code::Eewrite,
-        0x04 => Code::Eewrdi,
-        0x06 => Code::Eewren,
-        0x05 => Code::Srread,
-        0x01 => Code::Srwrite,
-        0x13 => Code::Read,
-        0x12 => Code::Write,
-        0x14 => Code::Unlock,
-        0x32 => Code::Idwrite,
-        0x33 => Code::Idread,
-        0x44 => Code::Clrwdt,
-        0x54 => Code::Clrram,
-        _ => Code::Other,
-    }
-}
-
+// The acts in their order.
 pub fn act_of(n: u8) -> Act
     ensures { λ r. ⌜ r ≡ actOf n ⌝ }
 {

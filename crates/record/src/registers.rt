@@ -1,6 +1,7 @@
 // The registers' addresses and masks, the watchdog's periods, and the limits, each named once.
+use crate::Counters;
 ghost use mathlib.Core.Path.{_≡_};
-ghost use Rattle.record.specs.Registers.{periodOf};
+ghost use Rattle.record.specs.Registers.{periodOf, oscon, vbaten};
 
 // Addresses by the sheet's names.
 pub const HUNDREDTHS: usize = 0x00;
@@ -35,6 +36,36 @@ pub const ALARM_1_HUNDREDTHS: usize = 0x12;
 pub const ALARM_1_HOURS: usize = 0x15;
 
 pub const ALARM_1: usize = 0x16;
+
+// Bits by the sheet's names, each as its weight: a byte divided by it is odd where the bit is set. 01h:
+pub const ST: u8 = 0x80;
+
+// 03h.
+pub const TWELVE: u8 = 0x40;
+
+// 04h.
+pub const VBATEN: u8 = 0x08;
+
+// 08h.
+pub const ALM_0: u8 = 0x10;
+
+pub const ALM_1: u8 = 0x20;
+
+// 0Ah.
+pub const WDTEN: u8 = 0x80;
+
+pub const WDTIF: u8 = 0x40;
+
+pub const WDDEL: u8 = 0x20;
+
+pub const WDTPLS: u8 = 0x10;
+
+// 0Fh and 16h; the code is the three bits from ALM_CODE up.
+pub const ALM_PIN: u8 = 0x80;
+
+pub const ALM_CODE: u8 = 0x10;
+
+pub const ALM_IF: u8 = 0x08;
 
 // The bits of each register that WRITE may set, 00h to 1Fh.
 pub const WRITABLE: [u8; 32] = [
@@ -106,4 +137,18 @@ pub fn period(v: u8) -> u32
 {
     let i = (v % 8) as usize;
     PERIODS[i]
+}
+
+// The start-up count has come to its end.
+pub fn is_oscon(c: Counters) -> bool
+    ensures { λ r. ⌜ r ≡ oscon c ⌝ }
+{
+    c.startup == STARTUP_TICKS
+}
+
+// VBATEN is set.
+pub fn battery_enabled(regs: [u8; 32]) -> bool
+    ensures { λ r. ⌜ r ≡ vbaten regs ⌝ }
+{
+    regs[DAY] / VBATEN % 2 == 1
 }

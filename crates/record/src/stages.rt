@@ -1,9 +1,13 @@
-// What a stage of the frame tells, and what a cycle's target does.
+// What a stage of the frame tells, and where the pointers of a frame and of a cycle stand.
+use crate::ClockAddress;
 use crate::Code;
+use crate::Long;
+use crate::Pair;
+use crate::Place;
 use crate::Stage;
 use crate::Target;
 ghost use mathlib.Core.Path.{_≡_};
-ghost use Rattle.record.specs.Stages.{selected, heardUnderWip, foreignToWip, idAt, eepromAt, idIn, eepromIn};
+ghost use Rattle.record.specs.Stages.{selected, heard, readingCode, writingCode, secondCode, overCode, codeAt, atInstruction, isOver, foreignToWip, framePlace, cyclePlace, idPointer, eepromPointer};
 
 // A frame is open.
 pub fn is_selected(stage: Stage) -> bool
@@ -11,86 +15,177 @@ pub fn is_selected(stage: Stage) -> bool
 {
     match stage {
         Stage::Idle => false,
-        _ => true,
+        Stage::Opened => true,
+        Stage::Unheard => true,
+        Stage::Instruction(_) => true,
+        Stage::Reading(_) => true,
+        Stage::Writing(_) => true,
+        Stage::Second(_) => true,
+        Stage::Over(_) => true,
     }
 }
 
-// The five codes that are heard while a write cycle runs.
-pub fn heard_under_wip(code: Code) -> bool
-    ensures { λ r. ⌜ r ≡ heardUnderWip code ⌝ }
-{
-    match code {
-        Code::Eeread => false,
-        Code::Eewrite => false,
-        Code::Eewrdi => false,
-        Code::Eewren => false,
-        Code::Srread => true,
-        Code::Srwrite => false,
-        Code::Read => true,
-        Code::Write => true,
-        Code::Unlock => false,
-        Code::Idwrite => false,
-        Code::Idread => false,
-        Code::Clrwdt => true,
-        Code::Clrram => true,
-        Code::Other => false,
-    }
-}
-
-pub fn foreign_to_wip(stage: Stage) -> bool
-    ensures { λ r. ⌜ r ≡ foreignToWip stage ⌝ }
+// A frame is open whose first byte came and is heard.
+pub fn is_heard(stage: Stage) -> bool
+    ensures { λ r. ⌜ r ≡ heard stage ⌝ }
 {
     match stage {
         Stage::Idle => false,
         Stage::Opened => false,
         Stage::Unheard => false,
-        Stage::Instruction(c) => !heard_under_wip(c),
-        Stage::ClockRead(_) => false,
-        Stage::ClockWrite(_) => false,
-        Stage::WatchdogSecond => false,
-        Stage::WatchdogMore => false,
-        Stage::RamSecond => false,
-        Stage::RamMore => false,
-        _ => true,
+        Stage::Instruction(_) => true,
+        Stage::Reading(_) => true,
+        Stage::Writing(_) => true,
+        Stage::Second(_) => true,
+        Stage::Over(_) => true,
     }
 }
 
-pub fn id_at(stage: Stage) -> u8
-    ensures { λ r. ⌜ r ≡ idAt stage ⌝ }
+fn reading_code(place: Place) -> Code
+    ensures { λ r. ⌜ r ≡ readingCode place ⌝ }
+{
+    match place {
+        Place::EepromAt(_) => Code::Eeread,
+        Place::ClockAt(_) => Code::Read,
+        Place::IdAt(_) => Code::Idread,
+    }
+}
+
+fn writing_code(place: Place) -> Code
+    ensures { λ r. ⌜ r ≡ writingCode place ⌝ }
+{
+    match place {
+        Place::EepromAt(_) => Code::Eewrite,
+        Place::ClockAt(_) => Code::Write,
+        Place::IdAt(_) => Code::Idwrite,
+    }
+}
+
+fn second_code(pair: Pair) -> Code
+    ensures { λ r. ⌜ r ≡ secondCode pair ⌝ }
+{
+    match pair {
+        Pair::StatusData(_) => Code::Srwrite,
+        Pair::UnlockData(_) => Code::Unlock,
+        Pair::ClearWatchdog => Code::Clrwdt,
+        Pair::ClearRam => Code::Clrram,
+    }
+}
+
+fn over_code(long: Long) -> Code
+    ensures { λ r. ⌜ r ≡ overCode long ⌝ }
+{
+    match long {
+        Long::StatusOver => Code::Srwrite,
+        Long::UnlockOver => Code::Unlock,
+        Long::WatchdogOver => Code::Clrwdt,
+        Long::RamOver => Code::Clrram,
+        Long::EnableOver => Code::Eewren,
+        Long::DisableOver => Code::Eewrdi,
+    }
+}
+
+// The code of a heard frame; Other where none is heard.
+pub fn code_at(stage: Stage) -> Code
+    ensures { λ r. ⌜ r ≡ codeAt stage ⌝ }
 {
     match stage {
-        Stage::IdRead(a) => a.0,
-        Stage::IdWrite(a) => a.0,
-        _ => 0,
+        Stage::Idle => Code::Other,
+        Stage::Opened => Code::Other,
+        Stage::Unheard => Code::Other,
+        Stage::Instruction(c) => c,
+        Stage::Reading(p) => reading_code(p),
+        Stage::Writing(p) => writing_code(p),
+        Stage::Second(q) => second_code(q),
+        Stage::Over(l) => over_code(l),
     }
 }
 
-pub fn eeprom_at(stage: Stage) -> u8
-    ensures { λ r. ⌜ r ≡ eepromAt stage ⌝ }
+// A heard frame is at its instruction byte.
+pub fn at_instruction(stage: Stage) -> bool
+    ensures { λ r. ⌜ r ≡ atInstruction stage ⌝ }
 {
     match stage {
-        Stage::EepromRead(a) => a.0,
-        Stage::EepromWrite(a) => a.0,
-        _ => 0,
+        Stage::Idle => false,
+        Stage::Opened => false,
+        Stage::Unheard => false,
+        Stage::Instruction(_) => true,
+        Stage::Reading(_) => false,
+        Stage::Writing(_) => false,
+        Stage::Second(_) => false,
+        Stage::Over(_) => false,
     }
 }
 
-pub fn id_in(target: Target) -> u8
-    ensures { λ r. ⌜ r ≡ idIn target ⌝ }
+// More bytes came than the code takes.
+pub fn is_over(stage: Stage) -> bool
+    ensures { λ r. ⌜ r ≡ isOver stage ⌝ }
 {
-    match target {
-        Target::Eeprom(_) => 0,
-        Target::Id(a) => a.0,
-        Target::Status(_) => 0,
+    match stage {
+        Stage::Idle => false,
+        Stage::Opened => false,
+        Stage::Unheard => false,
+        Stage::Instruction(_) => false,
+        Stage::Reading(_) => false,
+        Stage::Writing(_) => false,
+        Stage::Second(_) => false,
+        Stage::Over(_) => true,
     }
 }
 
-pub fn eeprom_in(target: Target) -> u8
-    ensures { λ r. ⌜ r ≡ eepromIn target ⌝ }
+// A heard frame is open whose code is not heard while a write cycle runs.
+pub fn foreign_to_wip(stage: Stage) -> bool
+    ensures { λ r. ⌜ r ≡ foreignToWip stage ⌝ }
+{
+    let heard = is_heard(stage);
+    let code = code_at(stage);
+    heard & !code.heard_under_wip()
+}
+
+// Where the pointer of a frame stands; at clock address 00h, which is never judged, where it has none.
+pub fn frame_place(stage: Stage) -> Place
+    ensures { λ r. ⌜ r ≡ framePlace stage ⌝ }
+{
+    match stage {
+        Stage::Idle => Place::ClockAt(ClockAddress(0)),
+        Stage::Opened => Place::ClockAt(ClockAddress(0)),
+        Stage::Unheard => Place::ClockAt(ClockAddress(0)),
+        Stage::Instruction(_) => Place::ClockAt(ClockAddress(0)),
+        Stage::Reading(p) => p,
+        Stage::Writing(p) => p,
+        Stage::Second(_) => Place::ClockAt(ClockAddress(0)),
+        Stage::Over(_) => Place::ClockAt(ClockAddress(0)),
+    }
+}
+
+// The same of a cycle.
+pub fn cycle_place(target: Target) -> Place
+    ensures { λ r. ⌜ r ≡ cyclePlace target ⌝ }
 {
     match target {
-        Target::Eeprom(a) => a.0,
-        Target::Id(_) => 0,
-        Target::Status(_) => 0,
+        Target::Eeprom(a) => Place::EepromAt(a),
+        Target::Id(a) => Place::IdAt(a),
+        Target::Status(_) => Place::ClockAt(ClockAddress(0)),
+    }
+}
+
+// The ID pointer of a place, and its EEPROM pointer; 0 where it is of another memory.
+pub fn id_pointer(place: Place) -> u8
+    ensures { λ r. ⌜ r ≡ idPointer place ⌝ }
+{
+    match place {
+        Place::EepromAt(_) => 0,
+        Place::ClockAt(_) => 0,
+        Place::IdAt(a) => a.0,
+    }
+}
+
+pub fn eeprom_pointer(place: Place) -> u8
+    ensures { λ r. ⌜ r ≡ eepromPointer place ⌝ }
+{
+    match place {
+        Place::EepromAt(a) => a.0,
+        Place::ClockAt(_) => 0,
+        Place::IdAt(_) => 0,
     }
 }

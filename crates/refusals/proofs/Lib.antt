@@ -1,2 +1,3 @@
 pub mod RangeLaws
 pub mod TableLaws
+pub mod KeepLaws

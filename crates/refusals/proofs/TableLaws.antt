@@ -20,11 +20,12 @@ use Rattle.record.specs.declared.Stage.the-variants.{Idle, Opened}
 use Rattle.record.specs.Part.{isPart, sizeOf, idSize}
 use Rattle.record.specs.Registers.{waitLimit}
 use Rattle.record.specs.Fresh.{fresh}
+use Rattle.record.specs.Setters.{withPower, withStage}
 use Rattle.record.specs.Stages.{selected}
 use Rattle.record.proofs.StageLaws.{idle, not-idle}
-use Rattle.refusals.specs.Range.{countersOut, frameOut, bitOutside, outOfRange}
-use Rattle.refusals.specs.Refusal.{wrongLength, wrongNumber, wrongPower, wrongSelect, refusalOf}
-use Rattle.refusals.specs.Rows.{PartRow, LengthRow, RangeRow, NumberRow, leftover, wait, byte, mask, select, up, PowerRow, select-off, byte-off, end-off, cut-off, up-on, SelectedRow, select-again, NotSelectedRow, byte-alone, end-alone, Row, table, First, Answered}
+use Rattle.refusals.specs.Range.{clockOut, frameOut, cycleOut, powerOut, bitOutside, outOfRange}
+use Rattle.refusals.specs.Refusal.{wrongLength, wrongArg, wrongPower, wrongSelect, refusalOf}
+use Rattle.refusals.specs.Rows.{PartRow, LengthRow, RangeRow, ArgRow, leftover, wait, byte, mask, select, up, PowerRow, select-off, byte-off, end-off, cut-off, up-on, SelectedRow, select-again, NotSelectedRow, byte-alone, end-alone, Row, table, First, TableGives}
 use Rattle.refusals.proofs.RangeLaws.{range-row}
 
 -- Each row is what its test says.
@@ -53,21 +54,21 @@ length-row part ee id = (
     given (inl n) = simp (ne-eqb ee (sizeOf part) n)
     given (inr n) = simp (ne-eqb id 16 n, or-true)
 
-number-told : (act : Act) (n : ℕ) → wrongNumber act n ≡ true → NumberRow act n
-number-told Select n e = select (eqb-false n 0 (not-true (eqb n 0) e))
-number-told Byte n e = byte (ltb-true 255 n e)
-number-told End n e = leftover (ltb-true 7 n e)
-number-told Wait n e = wait {n = n} (omega (arith, ltb-true waitLimit n e))
-number-told Cut n e = mask (ltb-true 255 n e)
-number-told Up n e = up (eqb-false n 0 (not-true (eqb n 0) e))
+arg-told : (act : Act) (n : ℕ) → wrongArg act n ≡ true → ArgRow act n
+arg-told Select n e = select (eqb-false n 0 (not-true (eqb n 0) e))
+arg-told Byte n e = byte (ltb-true 255 n e)
+arg-told End n e = leftover (ltb-true 7 n e)
+arg-told Wait n e = wait {n = n} (omega (arith, ltb-true waitLimit n e))
+arg-told Cut n e = mask (ltb-true 255 n e)
+arg-told Up n e = up (eqb-false n 0 (not-true (eqb n 0) e))
 
-number-given : {act : Act} {n : ℕ} → NumberRow act n → wrongNumber act n ≡ true
-number-given (leftover h) = lt-ltb _ _ h
-number-given (wait {n} h) = lt-ltb waitLimit n (omega arith)
-number-given (byte h) = lt-ltb _ _ h
-number-given (mask h) = lt-ltb _ _ h
-number-given (select h) = ap not (ne-eqb _ 0 h)
-number-given (up h) = ap not (ne-eqb _ 0 h)
+arg-given : {act : Act} {n : ℕ} → ArgRow act n → wrongArg act n ≡ true
+arg-given (leftover h) = lt-ltb _ _ h
+arg-given (wait {n} h) = lt-ltb waitLimit n (omega arith)
+arg-given (byte h) = lt-ltb _ _ h
+arg-given (mask h) = lt-ltb _ _ h
+arg-given (select h) = ap not (ne-eqb _ 0 h)
+arg-given (up h) = ap not (ne-eqb _ 0 h)
 
 power-told : (act : Act) (d : Device) → wrongPower act (d .power) ≡ true → PowerRow act d
 power-told Select d e = select-off (not-true (d .power) e)
@@ -99,7 +100,7 @@ unfolding First
 one-row true r rows x e f = inl (e .0 refl, refl)
 one-row false r rows x e f = inr (λ h. false≢true (e .1 h), f)
 
--- "then 1 or 2"
+-- the last two rows
 abbrev last : Act → Device → List Row
 last act d = record { number = 1; holds = SelectedRow act d } ∷ record { number = 2; holds = NotSelectedRow act d } ∷ []
 
@@ -124,13 +125,13 @@ last-rows Cut d t e = no-last Cut d refl
 last-rows Up d t e = no-last Up d refl
 
 -- The theorem: the number that answers an act is the table's,
-pub answered : (part : ℕ) (act : Act) (n : ℕ) (d : Device) (ee id : ℕ) → Answered part act n d ee id (refusalOf part act n d ee id)
+pub answered : (part : ℕ) (act : Act) (n : ℕ) (d : Device) (ee id : ℕ) → TableGives part act n d ee id (refusalOf part act n d ee id)
 unfolding refusalOf
 answered part act n d ee id =
     one-row (not (isPart part)) _ _ _ (part-row part)
     (one-row (wrongLength part ee id) _ _ _ (length-row part ee id)
     (one-row (outOfRange part d) _ _ _ (range-row part d)
-    (one-row (wrongNumber act n) _ _ _ (number-told act n, number-given)
+    (one-row (wrongArg act n) _ _ _ (arg-told act n, arg-given)
     (one-row (wrongPower act (d .power)) _ _ _ (power-told act d, power-given)
     (last-rows act d (selected (d .frame .stage)) refl)))))
 
@@ -146,9 +147,9 @@ first-once (r ∷ rows) j k (inr p) (inr q) = first-once rows j k (p .1) (q .1)
 -- so that an act is answered k exactly when row k holds and no row before it does, for every part, act, number, record and lengths.
 pub exactly :
     (part : ℕ) (act : Act) (n : ℕ) (d : Device) (ee id k : ℕ)
-    → (refusalOf part act n d ee id ≡ k) ↔ Answered part act n d ee id k
+    → (refusalOf part act n d ee id ≡ k) ↔ TableGives part act n d ee id k
 exactly part act n d ee id k = (
-  λ e. subst (Answered part act n d ee id) e (answered part act n d ee id),
+  λ e. subst (TableGives part act n d ee id) e (answered part act n d ee id),
   λ a. first-once (table part act n d ee id) (refusalOf part act n d ee id) k (answered part act n d ee id) a,
 )
 
@@ -158,7 +159,7 @@ pub record Accepted (part : ℕ) (act : Act) (n : ℕ) (d : Device) (ee id : ℕ
   pub eeprom : ee ≡ sizeOf part
   pub ids : id ≡ idSize
   pub ranged : outOfRange part d ≡ false
-  pub number : wrongNumber act n ≡ false
+  pub arg : wrongArg act n ≡ false
   pub power : wrongPower act (d .power) ≡ false
   pub select : wrongSelect act (selected (d .frame .stage)) ≡ 0
 
@@ -168,7 +169,7 @@ accepted part act n d ee id e =
     let r₁ = row (not (isPart part)) 3 _ (lit< tt) e in
     let r₂ = row (wrongLength part ee id) 4 _ (lit< tt) (r₁ .1) in
     let r₃ = row (outOfRange part d) 6 _ (lit< tt) (r₂ .1) in
-    let r₄ = row (wrongNumber act n) 3 _ (lit< tt) (r₃ .1) in
+    let r₄ = row (wrongArg act n) 3 _ (lit< tt) (r₃ .1) in
     let r₅ = row (wrongPower act (d .power)) 5 _ (lit< tt) (r₄ .1) in
     let l = not (eqb ee (sizeOf part)) in
     let m = not (eqb id idSize) in
@@ -177,7 +178,7 @@ accepted part act n d ee id e =
       eeprom = eqb-true ee (sizeOf part) (not-false _ (neither-left l m (r₂ .0)));
       ids = eqb-true id idSize (not-false _ (neither-right l m (r₂ .0)));
       ranged = r₃ .0;
-      number = r₄ .0;
+      arg = r₄ .0;
       power = r₅ .0;
       select = r₅ .1;
     }
@@ -185,20 +186,20 @@ accepted part act n d ee id e =
 -- and the other way
 pub passed : (part : ℕ) (act : Act) (n : ℕ) (d : Device) (ee id : ℕ) → Accepted part act n d ee id → refusalOf part act n d ee id ≡ 0
 unfolding refusalOf
-passed part act n d ee id a = simp (a .known, eq-eqb ee (sizeOf part) (a .eeprom), eq-eqb id idSize (a .ids), a .ranged, a .number, a .power, a .select)
+passed part act n d ee id a = simp (a .known, eq-eqb ee (sizeOf part) (a .eeprom), eq-eqb id idSize (a .ids), a .ranged, a .arg, a .power, a .select)
 
 -- an act is answered 0 exactly when no row holds
 pub done :
     (part : ℕ) (act : Act) (n : ℕ) (d : Device) (ee id : ℕ)
     → (refusalOf part act n d ee id ≡ 0)
-    ↔ ((¬ PartRow part) × (¬ LengthRow part ee id) × (¬ RangeRow part d) × (¬ NumberRow act n) × (¬ PowerRow act d) × (¬ SelectedRow act d) × (¬ NotSelectedRow act d))
+    ↔ ((¬ PartRow part) × (¬ LengthRow part ee id) × (¬ RangeRow part d) × (¬ ArgRow act n) × (¬ PowerRow act d) × (¬ SelectedRow act d) × (¬ NotSelectedRow act d))
 unfolding First
 done part act n d ee id = (
   λ e. let a = accepted part act n d ee id e in (
     λ r. true-false (a .known) (not-true (isPart part) (part-row part .1 r)),
     λ r. true-false (length-row part ee id .1 r) (lengths e),
     λ r. true-false (range-row part d .1 r) (a .ranged),
-    λ r. true-false (number-given r) (a .number),
+    λ r. true-false (arg-given r) (a .arg),
     λ r. true-false (power-given r) (a .power),
     λ r. omega (arith, a .select, selected-given r),
     λ r. omega (arith, a .select, not-selected-given r),
@@ -211,17 +212,7 @@ done part act n d ee id = (
 
 -- a record on which an act is accepted: fresh, with a frame opened for byte and end, with power off for up
 abbrev pub readyWith : Bool → Stage → Device
-readyWith power stage =
-    record {
-      regs = fresh .regs;
-      sram = fresh .sram;
-      counters = fresh .counters;
-      power = power;
-      guard = fresh .guard;
-      frame = record { stage = stage };
-      load = fresh .load;
-      cycle = fresh .cycle;
-    }
+readyWith power stage = withPower (withStage fresh stage) power
 
 abbrev pub ready : Act → Device
 ready Select = fresh
@@ -235,7 +226,7 @@ abbrev readyAnswer : Act → ℕ → ℕ
 readyAnswer act part = refusalOf part act 0 (ready act) (sizeOf part) idSize
 
 each-part : (act : Act) → every (λ (k : ℕ). eqb (pick (isPart k) (readyAnswer act k) 0) 0) 5 ≡ true
-unfolding every refusalOf outOfRange countersOut frameOut bitOutside fresh
+unfolding every refusalOf outOfRange clockOut frameOut cycleOut powerOut bitOutside fresh
 each-part Select = refl
 each-part Byte = refl
 each-part End = refl

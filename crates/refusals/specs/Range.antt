@@ -1,92 +1,117 @@
--- Number 6: the record is out of range. Document 01, "Acts and refusal numbers": each row of the list a test over the fields
--- that it reads, the tests in the paper's order. `outOfRange` joins them in three groups: counters, frame and cycle, bits; as
--- all answer 6, their order there tells nothing. A record that no row names is in range and answers as a chip.
--- Every EEPROM and ID pointer is judged, in use or not; a clock address never is.
+-- Number 6: the record is out of range. Each row of its list is a test over the fields that it reads; the tests are lists by subject: clock, frame,
+-- cycle, power. All answer 6, so their order tells nothing, and a further row is one more member of a list. A record that no row names is in
+-- range and answers as a chip. Every EEPROM and ID pointer is judged, in use or not; a clock address never is.
 -- Assumes nothing.
 use Prim.Native.Nat.{ℕ}
 use mathlib.Core.Bool.{Bool, not, _&&_, _||_}
-use mathlib.Core.List.{List}
+use mathlib.Core.List.{List, [], _∷_}
 use lib.Dec.{ltb, leb, eqb}
 use lib.Bits.{bitAnd}
 use lib.ListN.{getD}
-use Rattle.base.specs.Words.{every, bit}
+use Rattle.base.specs.Words.{every, anyOf}
 use Rattle.record.specs.declared.Device.{Device}
 use Rattle.record.specs.declared.Counters.{Counters}
 use Rattle.record.specs.declared.Load.{Load}
 use Rattle.record.specs.declared.Cycle.{Cycle}
+use Rattle.record.specs.declared.Place.{Place}
 use Rattle.record.specs.declared.Stage.{Stage}
-use Rattle.record.specs.Stages.{selected, foreignToWip, idAt, idIn, eepromAt, eepromIn}
 use Rattle.record.specs.Part.{sizeOf, bootsOf}
-use Rattle.record.specs.Registers.{secondsAt, watchdogAt, kept, periodOf, cycleTicks, startupTicks, dividerLast, longPulse, delayTicks}
+use Rattle.record.specs.Registers.{st, watchdogAt, kept, periodOf, cycleTicks, startupTicks, dividerLast, longPulse, delayTicks}
+use Rattle.record.specs.Stages.{selected, foreignToWip, framePlace, cyclePlace, idPointer, eepromPointer}
 
--- "divider above 32,767"
+-- A18. the divider
 abbrev pub dividerAbove : Counters → Bool
 dividerAbove c = ltb dividerLast (c .divider)
 
--- "start-up count above 32"
+-- A19. the start-up count
 abbrev pub startupAbove : Counters → Bool
 startupAbove c = ltb startupTicks (c .startup)
 
--- "write countdown above 164"
+-- A20. the write countdown
 abbrev pub countdownAbove : Cycle → Bool
 countdownAbove y = ltb cycleTicks (y .left)
 
--- "pulse above 4,096"
+-- A21. the pulse
 abbrev pub pulseAbove : Counters → Bool
 pulseAbove c = ltb longPulse (c .pulse)
 
--- "delay above 2,097,152"
+-- A22. the delay
 abbrev pub delayAbove : Counters → Bool
 delayAbove c = ltb delayTicks (c .delay)
 
--- "watchdog count not below its period"
+-- A23. the watchdog's count, by its period
 abbrev pub watchdogPast : List ℕ → Counters → Bool
 watchdogPast regs c = leb (periodOf (getD regs watchdogAt 0)) (c .watchdog)
 
--- "page offset above 7"
+-- A24. the page offset of the next byte
 abbrev pub offsetAbove : Load → Bool
 offsetAbove l = ltb 7 (l .next)
 
--- "ID pointer above 15"
-abbrev pub idPointerAbove : Stage → Cycle → Bool
-idPointerAbove s y = ltb 15 (idAt s) || ltb 15 (idIn (y .target))
+-- A25. an ID pointer
+abbrev pub idPointerAbove : Place → Bool
+idPointerAbove p = ltb 15 (idPointer p)
 
--- "EEPROM pointer not below the memory's length"
-abbrev pub eepromPointerPast : ℕ → Stage → Cycle → Bool
-eepromPointerPast size s y = leb size (eepromAt s) || leb size (eepromIn (y .target))
+-- A26. an EEPROM pointer, by the memory's length
+abbrev pub eepromPointerPast : ℕ → Place → Bool
+eepromPointerPast size p = leb size (eepromPointer p)
 
--- "a stored register bit set outside its mask"
+-- A27. a stored bit outside its register's mask
 abbrev pub insideMask : List ℕ → ℕ → Bool
 insideMask regs k = eqb (bitAnd (getD regs k 0) (getD kept k 0)) (getD regs k 0)
 
 unfoldable pub bitOutside : List ℕ → Bool
 bitOutside regs = not (every (insideMask regs) 32)
 
--- "start-up count above 0 on a W part with ST clear"
+-- A28. a start-up count on a W part whose ST is clear
 abbrev pub startupStopped : Bool → List ℕ → Counters → Bool
-startupStopped boots regs c = (not boots && not (bit (getD regs secondsAt 0) 7)) && ltb 0 (c .startup)
+startupStopped boots regs c = (not boots && not (st regs)) && ltb 0 (c .startup)
 
--- "power off with a frame open or a cycle running"
+-- A29. no power, and a frame is open or a cycle runs
 abbrev pub busyWithoutPower : Bool → Stage → Cycle → Bool
 busyWithoutPower power s y = not power && (selected s || ltb 0 (y .left))
 
--- "a cycle running with a heard frame open whose code is not one of the five that are heard under WIP"
+-- A30. a cycle runs, and the frame that is open and heard has another code than the five
 abbrev pub foreignFrame : Stage → Cycle → Bool
 foreignFrame s y = ltb 0 (y .left) && foreignToWip s
 
--- the rows that read counters, with the registers they go by
-unfoldable pub countersOut : Bool → List ℕ → Counters → Bool
-countersOut boots regs c =
-    dividerAbove c || startupAbove c || pulseAbove c || delayAbove c || watchdogPast regs c || startupStopped boots regs c
+-- registers and counts
+abbrev pub clockTests : Bool → List ℕ → Counters → List Bool
+clockTests boots regs c =
+    dividerAbove c ∷ startupAbove c ∷ pulseAbove c ∷ delayAbove c ∷ watchdogPast regs c ∷ startupStopped boots regs c ∷ bitOutside regs ∷ []
 
--- the rows that read frame, page load, cycle and power
-unfoldable pub frameOut : ℕ → Bool → Stage → Load → Cycle → Bool
-frameOut size power s l y =
-    countdownAbove y || offsetAbove l || idPointerAbove s y || eepromPointerPast size s y || busyWithoutPower power s y || foreignFrame s y
+-- the frame and its page load
+abbrev pub frameTests : ℕ → Stage → Load → List Bool
+frameTests size s l = offsetAbove l ∷ idPointerAbove (framePlace s) ∷ eepromPointerPast size (framePlace s) ∷ []
+
+-- the write cycle
+abbrev pub cycleTests : ℕ → Cycle → List Bool
+cycleTests size y = countdownAbove y ∷ idPointerAbove (cyclePlace (y .target)) ∷ eepromPointerPast size (cyclePlace (y .target)) ∷ []
+
+-- what power, frame and cycle say together
+abbrev pub powerTests : Bool → Stage → Cycle → List Bool
+powerTests power s y = busyWithoutPower power s y ∷ foreignFrame s y ∷ []
+
+unfoldable pub clockOut : Bool → List ℕ → Counters → Bool
+clockOut boots regs c = anyOf (clockTests boots regs c)
+
+unfoldable pub frameOut : ℕ → Stage → Load → Bool
+frameOut size s l = anyOf (frameTests size s l)
+
+unfoldable pub cycleOut : ℕ → Cycle → Bool
+cycleOut size y = anyOf (cycleTests size y)
+
+unfoldable pub powerOut : Bool → Stage → Cycle → Bool
+powerOut power s y = anyOf (powerTests power s y)
+
+-- the four subjects of a record
+abbrev pub rangeTests : ℕ → Device → List Bool
+rangeTests part d =
+    clockOut (bootsOf part) (d .regs) (d .counters)
+    ∷ frameOut (sizeOf part) (d .frame .stage) (d .load)
+    ∷ cycleOut (sizeOf part) (d .cycle)
+    ∷ powerOut (d .power) (d .frame .stage) (d .cycle)
+    ∷ []
 
 -- number 6: some row holds
 unfoldable pub outOfRange : ℕ → Device → Bool
-outOfRange part d =
-    countersOut (bootsOf part) (d .regs) (d .counters)
-    || frameOut (sizeOf part) (d .power) (d .frame .stage) (d .load) (d .cycle)
-    || bitOutside (d .regs)
+outOfRange part d = anyOf (rangeTests part d)

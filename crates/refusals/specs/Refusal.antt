@@ -1,5 +1,5 @@
--- The refusal table as the chain that decides: document 01, "Several at once: 7, 3 for the part, 4, 6, 3, 5, then 1 or 2."
--- Number 7 is the tape's. The rows in the paper's words, apart from this chain, stand in Rows.
+-- A33. The refusal table as the chain that decides: 3 for the part, 4, 6, 3 for the argument, 5, then 1 or 2. Number 7 is the tape's and comes before.
+-- The rows in words of their own, apart from this chain, stand in Rows.
 -- Assumes nothing.
 use Prim.Native.Nat.{ℕ}
 use mathlib.Core.Bool.{Bool, false, not, _||_}
@@ -13,20 +13,20 @@ use Rattle.record.specs.Registers.{waitLimit}
 use Rattle.record.specs.Stages.{selected}
 use Rattle.refusals.specs.Range.{outOfRange}
 
--- 4: "a memory's length is not the part's"
+-- 4, A15. a memory has not the part's length
 abbrev pub wrongLength : ℕ → ℕ → ℕ → Bool
 wrongLength part ee id = not (eqb ee (sizeOf part)) || not (eqb id idSize)
 
--- 3: "leftover above 7, wait above 16,777,216, byte or mask above 255, select or up with a number other than 0"
-abbrev pub wrongNumber : Act → ℕ → Bool
-wrongNumber Select n = not (eqb n 0)
-wrongNumber Byte n = ltb 255 n
-wrongNumber End n = ltb 7 n
-wrongNumber Wait n = ltb waitLimit n
-wrongNumber Cut n = ltb 255 n
-wrongNumber Up n = not (eqb n 0)
+-- 3, A10, A11, A12, A13. the act does not take the argument
+abbrev pub wrongArg : Act → ℕ → Bool
+wrongArg Select arg = not (eqb arg 0)
+wrongArg Byte arg = ltb 255 arg
+wrongArg End arg = ltb 7 arg
+wrongArg Wait arg = ltb waitLimit arg
+wrongArg Cut arg = ltb 255 arg
+wrongArg Up arg = not (eqb arg 0)
 
--- 5: "select, byte, end or cut while power is off; up while on"
+-- 5, A16, A17. the act does not go with the power
 abbrev pub wrongPower : Act → Bool → Bool
 wrongPower Select power = not power
 wrongPower Byte power = not power
@@ -35,7 +35,7 @@ wrongPower Wait power = false
 wrongPower Cut power = not power
 wrongPower Up power = power
 
--- 1: "select while selected"; 2: "byte or end while not selected"
+-- 1, A8. selected twice; 2, A9. a byte or an end without a frame
 abbrev pub wrongSelect : Act → Bool → ℕ
 wrongSelect Select sel = pick sel 1 0
 wrongSelect Byte sel = pick sel 0 2
@@ -46,11 +46,11 @@ wrongSelect Up sel = 0
 
 -- the order of the table; 0 where no row holds
 abbrev pub firstRefusal : Bool → Bool → Bool → Bool → Bool → ℕ → ℕ
-firstRefusal part length range number power last =
-    pick part 3 (pick length 4 (pick range 6 (pick number 3 (pick power 5 last))))
+firstRefusal part length range arg power last =
+    pick part 3 (pick length 4 (pick range 6 (pick arg 3 (pick power 5 last))))
 
 -- the number that answers an act on a record, with memories of these lengths
 unfoldable pub refusalOf : ℕ → Act → ℕ → Device → ℕ → ℕ → ℕ
-refusalOf part act n d ee id =
-    firstRefusal (not (isPart part)) (wrongLength part ee id) (outOfRange part d) (wrongNumber act n) (wrongPower act (d .power))
+refusalOf part act arg d ee id =
+    firstRefusal (not (isPart part)) (wrongLength part ee id) (outOfRange part d) (wrongArg act arg) (wrongPower act (d .power))
     (wrongSelect act (selected (d .frame .stage)))

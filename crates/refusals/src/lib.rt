@@ -5,7 +5,7 @@ use record::part;
 use record::registers::WAIT_LIMIT;
 use record::stages;
 ghost use mathlib.Core.Path.{_≡_};
-ghost use Rattle.refusals.specs.Refusal.{wrongLength, wrongNumber, wrongPower, wrongSelect, firstRefusal, refusalOf};
+ghost use Rattle.refusals.specs.Refusal.{wrongLength, wrongArg, wrongPower, wrongSelect, firstRefusal, refusalOf};
 
 pub mod range; // range.rt: number 6
 
@@ -19,16 +19,16 @@ pub fn wrong_length(part: u64, eeprom: usize, id: usize) -> bool
     (eeprom != size) | (id != ID_LENGTH)
 }
 
-fn wrong_number(act: Act, n: u64) -> bool
-    ensures { λ r. ⌜ r ≡ wrongNumber act n ⌝ }
+fn wrong_arg(act: Act, arg: u64) -> bool
+    ensures { λ r. ⌜ r ≡ wrongArg act arg ⌝ }
 {
     match act {
-        Act::Select => n != 0,
-        Act::Byte => 255 < n,
-        Act::End => 7 < n,
-        Act::Wait => WAIT_LIMIT < n,
-        Act::Cut => 255 < n,
-        Act::Up => n != 0,
+        Act::Select => arg != 0,
+        Act::Byte => 255 < arg,
+        Act::End => 7 < arg,
+        Act::Wait => WAIT_LIMIT < arg,
+        Act::Cut => 255 < arg,
+        Act::Up => arg != 0,
     }
 }
 
@@ -63,11 +63,11 @@ pub fn first_refusal(
     part: bool,
     length: bool,
     range: bool,
-    number: bool,
+    arg: bool,
     power: bool,
     last: u8,
 ) -> u8
-    ensures { λ r. ⌜ r ≡ firstRefusal part length range number power last ⌝ }
+    ensures { λ r. ⌜ r ≡ firstRefusal part length range arg power last ⌝ }
 {
     if part {
         return 3;
@@ -78,7 +78,7 @@ pub fn first_refusal(
     if range {
         return 6;
     }
-    if number {
+    if arg {
         return 3;
     }
     if power {
@@ -88,13 +88,13 @@ pub fn first_refusal(
 }
 
 // The number that answers an act on a record, with an EEPROM and an ID memory of these lengths.
-pub fn refusal(part: u64, act: Act, number: u64, d: Device, eeprom: usize, id: usize) -> u8
-    ensures { λ r. ⌜ r ≡ refusalOf part act number d eeprom id ⌝ }
+pub fn refusal(part: u64, act: Act, arg: u64, d: Device, eeprom: usize, id: usize) -> u8
+    ensures { λ r. ⌜ r ≡ refusalOf part act arg d eeprom id ⌝ }
 {
     let known = part::is_part(part);
     let misfit = wrong_length(part, eeprom, id);
     let ranged = range::out_of_range(part, d);
-    let wrong = wrong_number(act, number);
+    let wrong = wrong_arg(act, arg);
     let unpowered = wrong_power(act, d.power);
     let frame = d.frame;
     let stage = frame.stage;

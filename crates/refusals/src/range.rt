@@ -13,11 +13,12 @@ use record::registers::DIVIDER_LAST;
 use record::registers::KEPT;
 use record::registers::LONG_PULSE;
 use record::registers::SECONDS;
+use record::registers::ST;
 use record::registers::STARTUP_TICKS;
 use record::registers::WATCHDOG;
 use record::stages;
 ghost use mathlib.Core.Path.{_≡_};
-ghost use Rattle.refusals.specs.Range.{bitOutside, countersOut, frameOut, outOfRange};
+ghost use Rattle.refusals.specs.Range.{bitOutside, clockOut, frameOut, cycleOut, powerOut, outOfRange};
 
 // Some register has a bit set outside its mask.
 fn bit_outside(regs: [u8; 32]) -> bool
@@ -34,36 +35,51 @@ fn bit_outside(regs: [u8; 32]) -> bool
     false
 }
 
-fn counters_out(boots: bool, regs: [u8; 32], c: Counters) -> bool
-    ensures { λ r. ⌜ r ≡ countersOut boots regs c ⌝ }
+// Registers and counts.
+fn clock_out(boots: bool, regs: [u8; 32], c: Counters) -> bool
+    ensures { λ r. ⌜ r ≡ clockOut boots regs c ⌝ }
 {
     let most = registers::period(regs[WATCHDOG]);
-    let stopped = !boots & !(regs[SECONDS] / 128 % 2 == 1);
+    let stopped = !boots & !(regs[SECONDS] / ST % 2 == 1);
+    let outside = bit_outside(regs);
     (DIVIDER_LAST < c.divider)
         | (STARTUP_TICKS < c.startup)
         | (LONG_PULSE < c.pulse)
         | (DELAY_TICKS < c.delay)
         | (most <= c.watchdog)
         | (stopped & (0 < c.startup))
+        | outside
 }
 
-fn frame_out(size: u16, power: bool, stage: Stage, load: Load, cycle: Cycle) -> bool
-    ensures { λ r. ⌜ r ≡ frameOut size power stage load cycle ⌝ }
+// The frame and its page load.
+fn frame_out(size: u16, stage: Stage, load: Load) -> bool
+    ensures { λ r. ⌜ r ≡ frameOut size stage load ⌝ }
+{
+    let place = stages::frame_place(stage);
+    let id = stages::id_pointer(place);
+    let eeprom = stages::eeprom_pointer(place) as u16;
+    (7 < load.next) | (ID_LAST < id) | (size <= eeprom)
+}
+
+// The write cycle.
+fn cycle_out(size: u16, cycle: Cycle) -> bool
+    ensures { λ r. ⌜ r ≡ cycleOut size cycle ⌝ }
 {
     let target = cycle.target;
+    let place = stages::cycle_place(target);
+    let id = stages::id_pointer(place);
+    let eeprom = stages::eeprom_pointer(place) as u16;
+    (CYCLE_TICKS < cycle.left) | (ID_LAST < id) | (size <= eeprom)
+}
+
+// What power, frame and cycle say together.
+fn power_out(power: bool, stage: Stage, cycle: Cycle) -> bool
+    ensures { λ r. ⌜ r ≡ powerOut power stage cycle ⌝ }
+{
     let busy = 0 < cycle.left;
     let open = stages::is_selected(stage);
     let foreign = stages::foreign_to_wip(stage);
-    let id = stages::id_at(stage);
-    let id_written = stages::id_in(target);
-    let eeprom = stages::eeprom_at(stage) as u16;
-    let eeprom_written = stages::eeprom_in(target) as u16;
-    (CYCLE_TICKS < cycle.left)
-        | (7 < load.next)
-        | ((ID_LAST < id) | (ID_LAST < id_written))
-        | ((size <= eeprom) | (size <= eeprom_written))
-        | (!power & (open | busy))
-        | (busy & foreign)
+    (!power & (open | busy)) | (busy & foreign)
 }
 
 // Number 6.
@@ -78,8 +94,8 @@ pub fn out_of_range(part: u64, d: Device) -> bool
     let stage = frame.stage;
     let load = d.load;
     let cycle = d.cycle;
-    let counted = counters_out(boots, regs, counters);
-    let framed = frame_out(size, d.power, stage, load, cycle);
-    let stored = bit_outside(regs);
-    counted | framed | stored
+    clock_out(boots, regs, counters)
+        | frame_out(size, stage, load)
+        | cycle_out(size, cycle)
+        | power_out(d.power, stage, cycle)
 }

@@ -13,7 +13,7 @@ use Rattle.ledger.specs.Frames.{eepromSize}
 pub size-agrees : (part : ℕ) → isPart part ≡ true → eepromSize part ≡ sizeOf part
 size-agrees = part-cases (λ (part : ℕ). eepromSize part ≡ sizeOf part) refl refl refl refl
 
--- "a 1 Kbit part drops address bit 7"
+-- an address byte of EEPROM
 pub taken-agrees : (part : ℕ) → isPart part ≡ true → (v : ℕ) → v % eepromSize part ≡ bitAnd v (topOf part)
 taken-agrees part e v =
     part-cases (λ (n : ℕ). v % eepromSize n ≡ bitAnd v (topOf n)) (sym (and-mask v 7)) (sym (and-mask v 8)) (sym (and-mask v 7)) (sym (and-mask v 8))

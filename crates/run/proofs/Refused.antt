@@ -8,14 +8,14 @@ use borrow.Author.Tests.{eq-eqb}
 use lib.Dec.{eqb, ltb}
 use lib.ListN.{length}
 use Rattle.base.specs.Words.{pick}
-use Rattle.base.proofs.Tests.{pick-case}
+use Rattle.base.proofs.Tests.{pick-case, true-false}
 use Rattle.record.specs.declared.Act.{Act}
 use Rattle.record.specs.declared.Act.the-variants.{Select, Byte, End, Wait, Cut, Up}
 use Rattle.record.specs.Part.{isPart, sizeOf, idSize}
 use Rattle.record.specs.Stages.{selected}
-use Rattle.refusals.specs.Refusal.{wrongNumber, wrongPower, wrongSelect, refusalOf}
+use Rattle.refusals.specs.Refusal.{wrongArg, wrongPower, wrongSelect, refusalOf}
 use Rattle.refusals.proofs.RangeLaws.{out-of-range}
-use Rattle.device.specs.World.{World}
+use Rattle.record.specs.World.{World}
 use Rattle.acts.specs.Act.{refusalIn}
 use Rattle.ledger.specs.State.{Ledger}
 use Rattle.ledger.specs.Steps.{refused}
@@ -24,16 +24,16 @@ use Rattle.run.proofs.Agree.{Agree}
 
 -- what is left of the table for a part that is known, memories of its lengths and a record in range
 abbrev pub short : Act → ℕ → Bool → Bool → ℕ
-short act n power sel = pick (wrongNumber act n) 3 (pick (wrongPower act power) 5 (wrongSelect act sel))
+short act n power sel = pick (wrongArg act n) 3 (pick (wrongPower act power) 5 (wrongSelect act sel))
 
 pub shortened :
     (s : World) (part : ℕ) (w : World) (l : Ledger) (act : Act) (n : ℕ) → isPart part ≡ true → Agree s part w l
     → refusalIn part act n w ≡ short act n (w .device .power) (selected (w .device .frame .stage))
 unfolding refusalOf
 shortened s part w l act n p a =
-    let e : eqb (length (w .eeprom)) (sizeOf part) ≡ true = eq-eqb _ _ (a .shaped .eeprom) in
-    let i : eqb (length (w .id)) idSize ≡ true = eq-eqb _ _ (a .shaped .id) in
-    simp (p, e, i, out-of-range part (w .device) (a .range))
+    let e : eqb (length (w .eeprom)) (sizeOf part) ≡ true = eq-eqb _ _ (a .valid .shaped .eeprom) in
+    let i : eqb (length (w .id)) idSize ≡ true = eq-eqb _ _ (a .valid .shaped .id) in
+    simp (p, e, i, out-of-range part (w .device) (a .valid .range))
 
 three : (x y z : Bool) → eqb (pick x 3 (pick y 5 (pick z 1 0))) 0 ≡ not (x || y || z)
 three true y z = refl
@@ -67,7 +67,7 @@ pub refusal-agrees :
     → eqb (refusalIn part act n w) 0 ≡ not (refused (named act) n l)
 refusal-agrees s part w l act n p a =
     ap (λ (k : ℕ). eqb k 0) (shortened s part w l act n p a)
-    ∙ rw (← a .power, ← a .chosen) (same-refusal act n l)
+    ∙ rw (← a .state .power, ← a .state .chosen) (same-refusal act n l)
 
 -- no act of a run is answered 4 or 6: 7 is the tape's own
 last-small : (act : Act) (sel : Bool) (P : ℕ → Type 0) → P 0 → P 1 → P 2 → P (wrongSelect act sel)
@@ -83,10 +83,10 @@ pub never :
     → (eqb k 0 || eqb k 1 || eqb k 2 || eqb k 3 || eqb k 5) ≡ false → refusalIn part act n w ≢ k
 never s part w l act n k p a out e =
     let P : ℕ → Type 0 = λ j. j ≢ k in
-    pick-case P (wrongNumber act n) (miss 3 refl)
+    pick-case P (wrongArg act n) (miss 3 refl)
     (pick-case P (wrongPower act (w .device .power)) (miss 5 refl)
     (last-small act (selected (w .device .frame .stage)) P (miss 0 refl) (miss 1 refl) (miss 2 refl)))
     (sym (shortened s part w l act n p a) ∙ e)
   where
     miss : (j : ℕ) → (eqb j 0 || eqb j 1 || eqb j 2 || eqb j 3 || eqb j 5) ≡ true → j ≢ k
-    miss j t q = Rattle.base.proofs.Tests.true-false (ap (λ (i : ℕ). eqb i 0 || eqb i 1 || eqb i 2 || eqb i 3 || eqb i 5) (sym q) ∙ t) out
+    miss j t q = true-false (ap (λ (i : ℕ). eqb i 0 || eqb i 1 || eqb i 2 || eqb i 3 || eqb i 5) (sym q) ∙ t) out

@@ -20,14 +20,14 @@ use Rattle.record.specs.Part.{isPart, sizeOf, idSize}
 use Rattle.record.specs.Fresh.{fresh}
 use Rattle.refusals.specs.Refusal.{wrongLength}
 use Rattle.record.specs.Numbers.{actOf}
-use Rattle.device.specs.World.{World, world}
+use Rattle.record.specs.World.{World, world, freshWorld}
 use Rattle.acts.specs.declared.Answer.{Answer}
-use Rattle.acts.specs.Act.{Outcome, performed, answered}
+use Rattle.acts.specs.Act.{Outcome, performed, outcomeOf}
 use Rattle.ledger.specs.State.{Step, start}
 use Rattle.ledger.specs.Steps.{ledgerRun}
 use Rattle.run.specs.declared.Ran.{Ran}
-use Rattle.run.specs.Claim.{Input, Accounted, usedBy, ourChip, worldAfter, fed, stepOf, freshWorld, DemandThree}
-use Rattle.run.specs.Run.{refusesRun, inputsOf, inputsIn, numbersOf, ticksOf, stepsOf, over, Performed, Run}
+use Rattle.run.specs.Claim.{Input, Accounted, usedBy, ourChip, worldAfter, stepsOf, stepOf, DemandThree}
+use Rattle.run.specs.Run.{refusesRun, inputsOf, inputsIn, numbersOf, ticksOf, stepsBy, over, Performed, Run}
 use Rattle.run.proofs.DemandThree.{demand-three}
 
 -- the acts from place i on
@@ -37,7 +37,7 @@ inputsFrom i codes ns room = inputsOf (drop i codes) (drop i ns) (room - i)
 inputs-at :
     (i : ℕ) (codes ns : List ℕ) (room : ℕ) → i < length codes → i < length ns → i < room
     → inputsFrom i codes ns room
-    ≡ pick (ltb (getD codes i 0) 6) (record { act = actOf (getD codes i 0); number = getD ns i 0 } ∷ inputsFrom (i + 1) codes ns room) []
+    ≡ pick (ltb (getD codes i 0) 6) (record { act = actOf (getD codes i 0); arg = getD ns i 0 } ∷ inputsFrom (i + 1) codes ns room) []
 unfolding inputsOf
 inputs-at i codes ns room c n r =
     let left : room - i ≡ suc (room - (i + 1)) = omega arith in
@@ -98,7 +98,7 @@ left-all part codes ns room answers used w =
 left-less :
     (part : ℕ) (xs rest : List Input) (x : Input) (answers₀ used₀ : List ℕ) (w₀ : World) (i : ℕ) (answers used : List ℕ) (w : World)
     (a : Answer) (ee id : List ℕ)
-    → i < length answers → i < length used → answered a ee id ≡ performed part (x .act) (x .number) w
+    → i < length answers → i < length used → outcomeOf a ee id ≡ performed part (x .act) (x .arg) w
     → Left part xs (x ∷ rest) answers₀ used₀ w₀ i answers used w
     → Left part xs rest answers₀ used₀ w₀ (i + 1) (set answers i (a .number)) (set used i (usedBy (x .act) (a .count))) (world (a .device) ee id)
 unfolding worldAfter numbersOf ticksOf ourChip
@@ -123,11 +123,11 @@ pub left-turn :
     (part : ℕ) (xs : List Input) (answers₀ used₀ : List ℕ) (w₀ : World) (i : ℕ) (codes ns : List ℕ) (room : ℕ) (answers used : List ℕ) (w : World)
     (act : Act) (a : Answer) (u : ℕ) (ee id : List ℕ)
     → i < length codes → i < length ns → i < room → i < length answers → i < length used
-    → getD codes i 0 < 6 → act ≡ actOf (getD codes i 0) → answered a ee id ≡ performed part act (getD ns i 0) w → u ≡ usedBy act (a .count)
+    → getD codes i 0 < 6 → act ≡ actOf (getD codes i 0) → outcomeOf a ee id ≡ performed part act (getD ns i 0) w → u ≡ usedBy act (a .count)
     → Left part xs (inputsFrom i codes ns room) answers₀ used₀ w₀ i answers used w
     → Left part xs (inputsFrom (i + 1) codes ns room) answers₀ used₀ w₀ (i + 1) (set answers i (a .number)) (set used i u) (world (a .device) ee id)
 left-turn part xs answers₀ used₀ w₀ i codes ns room answers used w act a u ee id c n r s t h f e g l =
-    let x : Input = record { act = actOf (getD codes i 0); number = getD ns i 0 } in
+    let x : Input = record { act = actOf (getD codes i 0); arg = getD ns i 0 } in
     let m = rw (lt-ltb (getD codes i 0) 6 h) at (inputs-at i codes ns room c n r) in
     rw (g, f)
     (left-less part xs (inputsFrom (i + 1) codes ns room) x answers₀ used₀ w₀ i answers used w a ee id s t (rw f at e)
@@ -148,22 +148,22 @@ left-none part xs rest answers₀ used₀ w₀ i answers used w e k =
       ticks = sym (take-append-drop i used) ∙ l .ticks;
     }
 
--- the steps that the ledger is fed are those of the acts and the ticks that were answered
-fed-steps :
-    (part : ℕ) (xs : List Input) (w : World) (more : List ℕ) → fed ourChip part xs w ≡ stepsOf xs (ticksOf part xs w ++ more)
-unfolding fed stepsOf ticksOf
-fed-steps part [] w more = refl
-fed-steps part (x ∷ xs) w more =
-    ap (λ (ss : List Step). stepOf x (ourChip part (x .act) (x .number) w) ∷ ss)
-    (fed-steps part xs (ourChip part (x .act) (x .number) w .after) more)
+-- what the ledger is told is told by the acts and the ticks that were answered
+steps-by :
+    (part : ℕ) (xs : List Input) (w : World) (more : List ℕ) → stepsOf ourChip part xs w ≡ stepsBy xs (ticksOf part xs w ++ more)
+unfolding stepsOf stepsBy ticksOf
+steps-by part [] w more = refl
+steps-by part (x ∷ xs) w more =
+    ap (λ (ss : List Step). stepOf x (ourChip part (x .act) (x .arg) w .used) ∷ ss)
+    (steps-by part xs (ourChip part (x .act) (x .arg) w .after) more)
 
 accounted :
     (part : ℕ) (xs : List Input) (answers answers′ used used′ : List ℕ) (w : World) (n : ℕ) → isPart part ≡ true
-    → Performed part xs answers answers′ used used′ (freshWorld part) w n → Accounted part w (ledgerRun part (stepsOf xs used′) start)
+    → Performed part xs answers answers′ used used′ (freshWorld part) w n → Accounted part w (ledgerRun part (stepsBy xs used′) start)
 unfolding DemandThree
 accounted part xs answers answers′ used used′ w n p d =
     let f = freshWorld part in
-    rw (d .after, d .ticks, ← fed-steps part xs f (drop (length (ticksOf part xs f)) used)) (demand-three part p xs)
+    rw (d .after, d .ticks, ← steps-by part xs f (drop (length (ticksOf part xs f)) used)) (demand-three part p xs)
 
 -- what a run that is not refused may suppose
 pub record Accepted (part m n : ℕ) : Type 0 where

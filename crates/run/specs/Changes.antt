@@ -1,10 +1,10 @@
--- Which act may change a byte of a memory: a wait that ended a cycle over it, or a cut that stored it. It speaks of one act on any chip in
--- range with memories of its part's lengths.
+-- Two claims beside demand 3: which act may change a byte of a memory, of any chip in range; and which numbers no act of a run is answered.
 -- Assumes nothing.
 use Prim.Native.Nat.{ℕ, _+_, _<_}
 use mathlib.Core.Path.{_≡_}
 use mathlib.Core.Bool.{true}
 use mathlib.Core.Logic.{_⊎_, _≢_}
+use mathlib.Core.List.{List}
 use lib.Bits.{bitAnd}
 use lib.ListN.{getD}
 use Rattle.base.specs.Words.{bit}
@@ -15,10 +15,10 @@ use Rattle.record.specs.declared.Target.{Target}
 use Rattle.record.specs.declared.Target.the-variants.{Eeprom, Id, Status}
 use Rattle.record.specs.Address.{pageOf}
 use Rattle.refusals.specs.InRange.{InRange}
-use Rattle.device.specs.World.{World}
+use Rattle.record.specs.World.{World}
 use Rattle.acts.specs.Act.{performed}
 use Rattle.ledger.specs.State.{Memory, eeprom, id}
-use Rattle.run.specs.Wrong.{memoryOf}
+use Rattle.run.specs.Claim.{Input, memoryOf, reached}
 
 -- the place is one of the page's offsets that are loaded and under the mask
 abbrev pub Covers : Load → ℕ → ℕ → ℕ → Type 0
@@ -46,8 +46,15 @@ pub record CutOver (m : Memory) (act : Act) (mask : ℕ) (w : World) (p : ℕ) :
   pub runs : 0 < w .device .cycle .left
   pub writes : Writes m (w .device .load) mask p (w .device .cycle .target)
 
+-- R5. A byte changes only at a wait that ended a cycle over it, or at a cut that stored it.
 unfoldable pub ChangesOnly : Type 0
 ChangesOnly =
-    (part : ℕ) (act : Act) (n : ℕ) (w : World) (m : Memory) (p : ℕ) → InRange part (w .device)
-    → getD (memoryOf m (performed part act n w .after)) p 0 ≢ getD (memoryOf m w) p 0
-    → EndedOver m act (performed part act n w .count) w p ⊎ CutOver m act n w p
+    (part : ℕ) (act : Act) (arg : ℕ) (w : World) (m : Memory) (p : ℕ) → InRange part (w .device)
+    → getD (memoryOf m (performed part act arg w .after)) p 0 ≢ getD (memoryOf m w) p 0
+    → EndedOver m act (performed part act arg w .count) w p ⊎ CutOver m act arg w p
+
+-- R4. No act of a run is answered 4, 6 or 7.
+pub record NeverAnswered (part : ℕ) (xs : List Input) (act : Act) (arg : ℕ) : Type 0 where
+  pub four : performed part act arg (reached part xs) .number ≢ 4
+  pub six : performed part act arg (reached part xs) .number ≢ 6
+  pub seven : performed part act arg (reached part xs) .number ≢ 7

@@ -1,33 +1,32 @@
 -- Demand 3: after every list of acts from a fresh chip each EEPROM and ID byte is the ledger's. It is a predicate of any chip, so that a
--- wrong one can be refuted by it. The ledger is fed the part, the acts with their numbers and the ticks that each wait used, and
+-- wrong one can be refuted by it. The ledger is told the part, the acts with their arguments and the ticks that each wait used, and
 -- nothing of the chip's record.
 -- Assumes nothing.
 use Prim.Native.Nat.{ℕ, _<_}
 use mathlib.Core.Path.{_≡_}
 use mathlib.Core.Bool.{true}
 use mathlib.Core.List.{List, [], _∷_}
-use lib.ListN.{getD, replicate}
+use lib.ListN.{getD}
 use Rattle.record.specs.declared.Act.{Act}
 use Rattle.record.specs.declared.Act.the-variants.{Select, Byte, End, Wait, Cut, Up}
 use Rattle.record.specs.Part.{isPart, sizeOf, idSize}
-use Rattle.record.specs.Fresh.{fresh}
-use Rattle.device.specs.World.{World, world}
+use Rattle.record.specs.World.{World, freshWorld}
 use Rattle.acts.specs.Act.{performed}
-use Rattle.ledger.specs.State.{Step, eeprom, id, Ledger, start}
+use Rattle.ledger.specs.State.{Step, Memory, eeprom, id, Ledger, start}
 use Rattle.ledger.specs.Bytes.{byteOf}
 use Rattle.ledger.specs.Steps.{ledgerRun}
 
--- an act with its number, any number
+-- an act with its argument, any number
 pub record Input : Type 0 where
   pub act : Act
-  pub number : ℕ
+  pub arg : ℕ
 
 -- what a chip's step gives: the ticks that a wait used, 0 for another act, and the chip with its memories
 pub record Stepped : Type 0 where
   pub used : ℕ
   pub after : World
 
--- any chip: from a part, an act, its number, and the chip with its memories
+-- any chip: from a part, an act, its argument, and the chip with its memories
 abbrev pub Chip : Type 0
 Chip = ℕ → Act → ℕ → World → Stepped
 
@@ -42,7 +41,7 @@ usedBy Up count = 0
 
 -- our chip: the definition that `perform` is proved equal to
 unfoldable pub ourChip : Chip
-ourChip part act n w = record { used = usedBy act (performed part act n w .count); after = performed part act n w .after }
+ourChip part act arg w = record { used = usedBy act (performed part act arg w .count); after = performed part act arg w .after }
 
 -- a chip's act as the ledger names it
 abbrev pub named : Act → Rattle.ledger.specs.State.Act
@@ -56,28 +55,36 @@ named Up = Rattle.ledger.specs.State.up
 -- the chip with its memories after a list of acts
 unfoldable pub worldAfter : Chip → ℕ → List Input → World → World
 worldAfter chip part [] w = w
-worldAfter chip part (x ∷ xs) w = worldAfter chip part xs (chip part (x .act) (x .number) w .after)
+worldAfter chip part (x ∷ xs) w = worldAfter chip part xs (chip part (x .act) (x .arg) w .after)
 
--- what the ledger is fed of it
-abbrev pub stepOf : Input → Stepped → Step
-stepOf x s = record { act = named (x .act); number = x .number; used = s .used }
+-- L1. what the ledger is told of it
+abbrev pub stepOf : Input → ℕ → Step
+stepOf x used = record { act = named (x .act); arg = x .arg; used = used }
 
-unfoldable pub fed : Chip → ℕ → List Input → World → List Step
-fed chip part [] w = []
-fed chip part (x ∷ xs) w =
-    stepOf x (chip part (x .act) (x .number) w) ∷ fed chip part xs (chip part (x .act) (x .number) w .after)
+unfoldable pub stepsOf : Chip → ℕ → List Input → World → List Step
+stepsOf chip part [] w = []
+stepsOf chip part (x ∷ xs) w =
+    stepOf x (chip part (x .act) (x .arg) w .used) ∷ stepsOf chip part xs (chip part (x .act) (x .arg) w .after)
 
--- a fresh chip, "both memories filled with FFh"
-abbrev pub freshWorld : ℕ → World
-freshWorld part = world fresh (replicate (sizeOf part) 255) (replicate idSize 255)
+-- a memory and its size
+abbrev pub memoryOf : Memory → World → List ℕ
+memoryOf eeprom w = w .eeprom
+memoryOf id w = w .id
+
+abbrev pub memorySize : Memory → ℕ → ℕ
+memorySize eeprom part = sizeOf part
+memorySize id part = idSize
 
 -- each byte of both memories is the one that the ledger gives for its place, else FFh
-pub record Accounted (part : ℕ) (w : World) (l : Ledger) : Type 0 where
-  pub eepromBytes : (p : ℕ) → p < sizeOf part → getD (w .eeprom) p 0 ≡ byteOf 255 eeprom p (l .entries)
-  pub idBytes : (p : ℕ) → p < idSize → getD (w .id) p 0 ≡ byteOf 255 id p (l .entries)
+abbrev pub Accounted : ℕ → World → Ledger → Type 0
+Accounted part w l = (m : Memory) (p : ℕ) → p < memorySize m part → getD (memoryOf m w) p 0 ≡ byteOf 255 m p (l .entries)
 
--- demand 3, of any chip: one claim about every list of acts, on every part, refused acts among them
+-- the chip with its memories after any list of acts from fresh
+abbrev pub reached : ℕ → List Input → World
+reached part xs = worldAfter ourChip part xs (freshWorld part)
+
+-- R1, W12, W13. Demand 3, of any chip: one claim about every list of acts, on every part, refused acts among them.
 unfoldable pub DemandThree : Chip → Type 0
 DemandThree chip =
     (part : ℕ) → isPart part ≡ true → (xs : List Input)
-    → Accounted part (worldAfter chip part xs (freshWorld part)) (ledgerRun part (fed chip part xs (freshWorld part)) start)
+    → Accounted part (worldAfter chip part xs (freshWorld part)) (ledgerRun part (stepsOf chip part xs (freshWorld part)) start)

@@ -1,4 +1,5 @@
 pub mod Claim
 pub mod Run
+pub mod Script
 pub mod Wrong
 pub mod Changes

@@ -1,5 +1,5 @@
--- A list of acts as slices: act codes, their numbers, and lent slices for the numbers answered and the ticks used. What the function `run`
--- gives, refused or not.
+-- A list of acts as slices: act codes, their arguments, and lent slices for the numbers answered and the ticks used. What the function
+-- `run` gives, refused or not.
 -- Assumes nothing.
 use Prim.Native.Nat.{ℕ, zero, suc, min}
 use mathlib.Core.Path.{_≡_}
@@ -8,49 +8,48 @@ use mathlib.Core.List.{List, [], _∷_, _++_}
 use lib.Dec.{ltb}
 use lib.ListN.{length, drop}
 use Rattle.base.specs.Words.{pick}
-use Rattle.record.specs.Part.{isPart}
-use Rattle.refusals.specs.Refusal.{wrongLength, firstRefusal}
 use Rattle.record.specs.Fresh.{fresh}
 use Rattle.record.specs.Numbers.{actOf}
-use Rattle.device.specs.World.{World, world}
+use Rattle.record.specs.Part.{isPart}
+use Rattle.record.specs.World.{World, world, freshWorld}
+use Rattle.refusals.specs.Refusal.{wrongLength, firstRefusal}
 use Rattle.acts.specs.Act.{performed}
 use Rattle.ledger.specs.State.{Step, start}
 use Rattle.ledger.specs.Steps.{ledgerRun}
 use Rattle.run.specs.declared.Ran.{Ran}
-use Rattle.run.specs.Claim.{Input, Accounted, ourChip, worldAfter, freshWorld, named}
+use Rattle.run.specs.Claim.{Input, Accounted, ourChip, worldAfter, stepOf}
 
 -- a run is refused by the first two rows of the table: 3 for a part that is none, 4 for a memory's length that is not the part's
 abbrev pub refusesRun : ℕ → ℕ → ℕ → ℕ
 refusesRun part ee id = firstRefusal (not (isPart part)) (wrongLength part ee id) false false false 0
 
--- the acts that are performed: the longest prefix for which there is a number, room for both answers, and a code that names an act
+-- the acts that are performed: the longest prefix for which there is an argument, room for both answers, and a code that names an act
 unfoldable pub inputsOf : List ℕ → List ℕ → ℕ → List Input
-inputsOf [] ns room = []
+inputsOf [] args room = []
 inputsOf (c ∷ cs) [] room = []
 inputsOf (c ∷ cs) (n ∷ ns) zero = []
-inputsOf (c ∷ cs) (n ∷ ns) (suc room) =
-    pick (ltb c 6) (record { act = actOf c; number = n } ∷ inputsOf cs ns room) []
+inputsOf (c ∷ cs) (n ∷ ns) (suc room) = pick (ltb c 6) (record { act = actOf c; arg = n } ∷ inputsOf cs ns room) []
 
 -- the same of the slices that are lent
 abbrev pub inputsIn : List ℕ → List ℕ → List ℕ → List ℕ → List Input
-inputsIn codes ns answers used = inputsOf codes ns (min (length answers) (length used))
+inputsIn codes args answers used = inputsOf codes args (min (length answers) (length used))
 
 -- the numbers that the acts are answered, and the ticks that they use
 unfoldable pub numbersOf : ℕ → List Input → World → List ℕ
 numbersOf part [] w = []
 numbersOf part (x ∷ xs) w =
-    performed part (x .act) (x .number) w .number ∷ numbersOf part xs (ourChip part (x .act) (x .number) w .after)
+    performed part (x .act) (x .arg) w .number ∷ numbersOf part xs (ourChip part (x .act) (x .arg) w .after)
 
 unfoldable pub ticksOf : ℕ → List Input → World → List ℕ
 ticksOf part [] w = []
 ticksOf part (x ∷ xs) w =
-    ourChip part (x .act) (x .number) w .used ∷ ticksOf part xs (ourChip part (x .act) (x .number) w .after)
+    ourChip part (x .act) (x .arg) w .used ∷ ticksOf part xs (ourChip part (x .act) (x .arg) w .after)
 
--- the steps that the ledger is fed, by the acts and the ticks that were answered
-unfoldable pub stepsOf : List Input → List ℕ → List Step
-stepsOf [] us = []
-stepsOf (x ∷ xs) [] = []
-stepsOf (x ∷ xs) (u ∷ us) = record { act = named (x .act); number = x .number; used = u } ∷ stepsOf xs us
+-- L1. what the ledger is told, by the acts and the ticks that were answered
+unfoldable pub stepsBy : List Input → List ℕ → List Step
+stepsBy [] us = []
+stepsBy (x ∷ xs) [] = []
+stepsBy (x ∷ xs) (u ∷ us) = stepOf x u ∷ stepsBy xs us
 
 -- a list whose start is replaced; past the acts that were performed nothing changes
 abbrev pub over : List ℕ → List ℕ → List ℕ
@@ -65,7 +64,7 @@ pub record Performed (part : ℕ) (xs : List Input) (answers answers′ used use
   pub ticks : used′ ≡ over (ticksOf part xs w) used
 
 -- what a run leaves: in the slices before and after, and its answer
-pub record Run (part : ℕ) (codes ns answers answers′ used used′ ee ee′ id id′ : List ℕ) (r : Ran) : Type 0 where
+pub record Run (part : ℕ) (codes args answers answers′ used used′ ee ee′ id id′ : List ℕ) (r : Ran) : Type 0 where
   -- refused: nothing changed
   pub refused :
       (refusesRun part (length ee) (length id) ≡ 0 → ⊥)
@@ -75,10 +74,10 @@ pub record Run (part : ℕ) (codes ns answers answers′ used used′ ee ee′ i
   pub done :
       refusesRun part (length ee) (length id) ≡ 0
       → (r .number ≡ 0)
-      × Performed part (inputsIn codes ns answers used) answers answers′ used used′
+      × Performed part (inputsIn codes args answers used) answers answers′ used used′
       (freshWorld part) (world (r .device) ee′ id′) (r .count)
-  -- demand 3, of the memories at exit, by the acts and the ticks at exit alone
+  -- R1. demand 3, of the memories at exit, by the acts and the ticks at exit alone
   pub demandThree :
       refusesRun part (length ee) (length id) ≡ 0
       → Accounted part (world (r .device) ee′ id′)
-      (ledgerRun part (stepsOf (inputsIn codes ns answers used) used′) start)
+      (ledgerRun part (stepsBy (inputsIn codes args answers used) used′) start)

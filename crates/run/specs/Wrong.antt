@@ -5,75 +5,57 @@ use mathlib.Core.Bool.{Bool, true, false}
 use mathlib.Core.List.{List, [], _∷_, _++_}
 use mathlib.Core.Path.{_≡_}
 use lib.ListN.{getD}
-use Rattle.record.specs.declared.Act.{Act}
 use Rattle.record.specs.declared.Act.the-variants.{Select, Byte, End, Wait, Cut, Up}
 use Rattle.record.specs.declared.Lock.the-variants.{Open}
-use Rattle.device.specs.World.{World, world}
-use Rattle.block.specs.Setters.{withGuard}
+use Rattle.record.specs.Setters.{withWel, withLock}
+use Rattle.record.specs.World.{World, moved, freshWorld}
 use Rattle.ledger.specs.State.{Memory, eeprom, id, start}
 use Rattle.ledger.specs.Bytes.{byteOf}
 use Rattle.ledger.specs.Steps.{ledgerRun}
-use Rattle.run.specs.Claim.{Chip, Input, ourChip, worldAfter, fed, freshWorld}
+use Rattle.run.specs.Claim.{Chip, Input, ourChip, worldAfter, stepsOf, memoryOf}
+use Rattle.run.specs.Script.{does, frameOf}
 
--- a chip with its memories whose WEL is set to a value, and one whose lock is open
+-- a chip whose WEL is set to a value, and one whose lock is open
 abbrev pub latchedAt : Bool → World → World
-latchedAt b w =
-    world (withGuard (w .device) (record { wel = b; protection = w .device .guard .protection; lock = w .device .guard .lock })) (w .eeprom) (w .id)
+latchedAt b w = moved w (withWel (w .device) b)
 
 abbrev pub unlockedWorld : World → World
-unlockedWorld w =
-    world (withGuard (w .device) (record { wel = w .device .guard .wel; protection = w .device .guard .protection; lock = Open })) (w .eeprom) (w .id)
+unlockedWorld w = moved w (withLock (w .device) Open)
 
--- A chip that needs no enable: at an end the latch counts as set, so that a write goes through without it.
+-- our chip, with something done to it before an end, or with another mask at a cut
+abbrev pub changedAt : (World → World) → (ℕ → ℕ) → Chip
+changedAt before mask part Select arg w = ourChip part Select arg w
+changedAt before mask part Byte arg w = ourChip part Byte arg w
+changedAt before mask part End arg w = ourChip part End arg (before w)
+changedAt before mask part Wait arg w = ourChip part Wait arg w
+changedAt before mask part Cut arg w = ourChip part Cut (mask arg) w
+changedAt before mask part Up arg w = ourChip part Up arg w
+
+-- R3. A chip that needs no enable: at an end the latch counts as set, so that a write goes through without it.
 unfoldable pub enablelessChip : Chip
-enablelessChip part Select n w = ourChip part Select n w
-enablelessChip part Byte n w = ourChip part Byte n w
-enablelessChip part End n w = ourChip part End n (latchedAt true w)
-enablelessChip part Wait n w = ourChip part Wait n w
-enablelessChip part Cut n w = ourChip part Cut n w
-enablelessChip part Up n w = ourChip part Up n w
+enablelessChip = changedAt (latchedAt true) (λ m. m)
 
--- A chip that never hears an enable: its latch is clear after every act.
-unfoldable pub deafChip : Chip
-deafChip part act n w =
-    record { used = ourChip part act n w .used; after = latchedAt false (ourChip part act n w .after) }
-
--- A chip whose cycles store nothing.
-unfoldable pub emptyChip : Chip
-emptyChip part act n w =
-    record { used = ourChip part act n w .used; after = world (ourChip part act n w .after .device) (w .eeprom) (w .id) }
-
--- A chip that stores all loaded bytes at a cut, whatever the mask.
-unfoldable pub masklessChip : Chip
-masklessChip part Select n w = ourChip part Select n w
-masklessChip part Byte n w = ourChip part Byte n w
-masklessChip part End n w = ourChip part End n w
-masklessChip part Wait n w = ourChip part Wait n w
-masklessChip part Cut n w = ourChip part Cut 255 w
-masklessChip part Up n w = ourChip part Up n w
-
--- A chip whose IDWRITE needs no lock: at an end the lock counts as open.
+-- R3. A chip whose IDWRITE needs no lock: at an end the lock counts as open.
 unfoldable pub locklessChip : Chip
-locklessChip part Select n w = ourChip part Select n w
-locklessChip part Byte n w = ourChip part Byte n w
-locklessChip part End n w = ourChip part End n (unlockedWorld w)
-locklessChip part Wait n w = ourChip part Wait n w
-locklessChip part Cut n w = ourChip part Cut n w
-locklessChip part Up n w = ourChip part Up n w
+locklessChip = changedAt unlockedWorld (λ m. m)
 
--- an act with its number
-abbrev pub does : Act → ℕ → Input
-does act n = record { act = act; number = n }
+-- R3. A chip that stores all loaded bytes at a cut, whatever the mask.
+unfoldable pub masklessChip : Chip
+masklessChip = changedAt (λ w. w) (λ m. 255)
 
--- a whole frame of bytes
-unfoldable pub sent : List ℕ → List Input
-sent [] = does End 0 ∷ []
-sent (b ∷ bs) = does Byte b ∷ sent bs
+-- a chip after whose acts something is done to it; the world before the act comes first
+abbrev pub changedBy : (World → World → World) → Chip
+changedBy f part act arg w = record { used = ourChip part act arg w .used; after = f w (ourChip part act arg w .after) }
 
-abbrev pub frameOf : List ℕ → List Input
-frameOf bs = does Select 0 ∷ sent bs
+-- R3, W10. A chip that never hears an enable: its latch is clear after every act.
+unfoldable pub deafChip : Chip
+deafChip = changedBy (λ v w. latchedAt false w)
 
--- Document 01, "The tape": the whole case, after its line `part 2`
+-- R3. A chip whose cycles store nothing.
+unfoldable pub emptyChip : Chip
+emptyChip = changedBy (λ v w. moved v (w .device))
+
+-- T10. the whole case, after its part
 abbrev pub wholeCase : List Input
 wholeCase =
     frameOf (6 ∷ []) ++ frameOf (2 ∷ 7 ∷ 18 ∷ 52 ∷ []) ++ (does Wait 200 ∷ []) ++ frameOf (3 ∷ 0 ∷ 0 ∷ [])
@@ -91,25 +73,20 @@ abbrev pub lockForgotten : List Input
 lockForgotten = frameOf (6 ∷ []) ++ frameOf (0x32 ∷ 3 ∷ 77 ∷ []) ++ (does Wait 200 ∷ [])
 
 abbrev pub idProgrammed : List Input
-idProgrammed =
-    frameOf (0x14 ∷ 0x55 ∷ []) ++ frameOf (0x14 ∷ 0xaa ∷ []) ++ frameOf (6 ∷ []) ++ frameOf (0x32 ∷ 3 ∷ 77 ∷ []) ++ (does Wait 200 ∷ [])
+idProgrammed = frameOf (0x14 ∷ 0x55 ∷ []) ++ frameOf (0x14 ∷ 0xaa ∷ []) ++ lockForgotten
 
 -- the byte that a chip holds at a place after a run from fresh, and the byte that the ledger gives for it
-abbrev pub memoryOf : Memory → World → List ℕ
-memoryOf eeprom w = w .eeprom
-memoryOf id w = w .id
-
 abbrev pub held : Chip → ℕ → List Input → Memory → ℕ → ℕ
 held chip part xs m p = getD (memoryOf m (worldAfter chip part xs (freshWorld part))) p 0
 
 abbrev pub owed : Chip → ℕ → List Input → Memory → ℕ → ℕ
-owed chip part xs m p = byteOf 255 m p (ledgerRun part (fed chip part xs (freshWorld part)) start .entries)
+owed chip part xs m p = byteOf 255 m p (ledgerRun part (stepsOf chip part xs (freshWorld part)) start .entries)
 
 -- what a chip holds and what it owes differ at that place, after that run
 abbrev pub Differs : Chip → ℕ → List Input → Memory → ℕ → ℕ → ℕ → Type 0
 Differs chip part xs m p holds owes = (held chip part xs m p ≡ holds) × (owed chip part xs m p ≡ owes)
 
--- each wrong chip with the run, the place and the two bytes that refute it
+-- R3. each wrong chip with the run, the place and the two bytes that refute it
 unfoldable pub Refutations : Type 0
 Refutations =
     Differs enablelessChip 2 enableForgotten eeprom 0 52 255
@@ -127,5 +104,6 @@ Runs part =
     × (held ourChip part enableForgotten eeprom 0 ≡ 255)
     × (held ourChip part idProgrammed id 3 ≡ 77)
 
-unfoldable pub Witnesses : Type 0
-Witnesses = Runs 1 × Runs 2 × Runs 3 × Runs 4
+-- R6, W6.
+unfoldable pub RunsShown : Type 0
+RunsShown = Runs 1 × Runs 2 × Runs 3 × Runs 4

@@ -3,7 +3,7 @@ use record::Act;
 use record::Device;
 ghost use mathlib.Core.Path.{_≡_};
 ghost use Prim.Native.Nat.{min};
-ghost use Rattle.device.specs.World.{world};
+ghost use Rattle.record.specs.World.{world};
 ghost use Rattle.run.specs.declared.Ran.{Ran};
 ghost use Rattle.run.specs.Claim.{usedBy};
 ghost use Rattle.run.specs.Run.{refusesRun, inputsIn, Performed, Run};
@@ -50,16 +50,16 @@ fn perform_all(
     part: u64,
     device: Device,
     codes: &[u8],
-    numbers: &[u64],
+    args: &[u64],
     answers: &mut [u8],
     used: &mut [u64],
     eeprom: &mut [u8],
     id: &mut [u8],
 ) -> Ran
-    ensures { λ r. ⌜ (r .number ≡ 0) × Performed part (inputsIn (now (codes .entry)) (now (numbers .entry)) (now (answers .entry)) (now (used .entry))) (now (answers .entry)) (now (answers .exit)) (now (used .entry)) (now (used .exit)) (world device (now (eeprom .entry)) (now (id .entry))) (world (r .device) (now (eeprom .exit)) (now (id .exit))) (r .count) ⌝ }
+    ensures { λ r. ⌜ (r .number ≡ 0) × Performed part (inputsIn (now (codes .entry)) (now (args .entry)) (now (answers .entry)) (now (used .entry))) (now (answers .entry)) (now (answers .exit)) (now (used .entry)) (now (used .exit)) (world device (now (eeprom .entry)) (now (id .entry))) (world (r .device) (now (eeprom .exit)) (now (id .exit))) (r .count) ⌝ }
 {
     let most = least(
-        least(codes.len(), numbers.len()),
+        least(codes.len(), args.len()),
         least(answers.len(), used.len()),
     );
     let mut chip = device;
@@ -74,8 +74,8 @@ fn perform_all(
             };
         }
         let act = record::number::act_of(code);
-        let number = numbers[i];
-        let a = acts::perform(part, act, number, chip, eeprom, id);
+        let arg = args[i];
+        let a = acts::perform(part, act, arg, chip, eeprom, id);
         answers[i] = a.number;
         used[i] = ticks_of(act, a.count);
         chip = a.device;
@@ -93,13 +93,13 @@ fn perform_all(
 pub fn run(
     part: u64,
     codes: &[u8],
-    numbers: &[u64],
+    args: &[u64],
     answers: &mut [u8],
     used: &mut [u64],
     eeprom: &mut [u8],
     id: &mut [u8],
 ) -> Ran
-    ensures { λ r. ⌜ Run part (now (codes .entry)) (now (numbers .entry)) (now (answers .entry)) (now (answers .exit)) (now (used .entry)) (now (used .exit)) (now (eeprom .entry)) (now (eeprom .exit)) (now (id .entry)) (now (id .exit)) r ⌝ }
+    ensures { λ r. ⌜ Run part (now (codes .entry)) (now (args .entry)) (now (answers .entry)) (now (answers .exit)) (now (used .entry)) (now (used .exit)) (now (eeprom .entry)) (now (eeprom .exit)) (now (id .entry)) (now (id .exit)) r ⌝ }
 {
     let fresh = record::fresh_device();
     let number = refuses(part, eeprom.len(), id.len());
@@ -112,7 +112,7 @@ pub fn run(
     }
     acts::page::erase(eeprom);
     acts::page::erase(id);
-    perform_all(part, fresh, codes, numbers, answers, used, eeprom, id)
+    perform_all(part, fresh, codes, args, answers, used, eeprom, id)
 }
 
 // `run` for a caller in another language, to whom each slice is a pointer and a length: how many acts were performed.
@@ -120,13 +120,13 @@ pub fn run(
 pub extern "C" fn tekuravy_run(
     part: u64,
     codes: &[u8],
-    numbers: &[u64],
+    args: &[u64],
     answers: &mut [u8],
     used: &mut [u64],
     eeprom: &mut [u8],
     id: &mut [u8],
 ) -> u64
-    ensures { λ r. ⌜ ((s : Ran) × (Run part (now (codes .entry)) (now (numbers .entry)) (now (answers .entry)) (now (answers .exit)) (now (used .entry)) (now (used .exit)) (now (eeprom .entry)) (now (eeprom .exit)) (now (id .entry)) (now (id .exit)) s) × (r ≡ s .count)) ⌝ }
+    ensures { λ r. ⌜ ((s : Ran) × (Run part (now (codes .entry)) (now (args .entry)) (now (answers .entry)) (now (answers .exit)) (now (used .entry)) (now (used .exit)) (now (eeprom .entry)) (now (eeprom .exit)) (now (id .entry)) (now (id .exit)) s) × (r ≡ s .count)) ⌝ }
 {
-    run(part, codes, numbers, answers, used, eeprom, id).count as u64
+    run(part, codes, args, answers, used, eeprom, id).count as u64
 }

@@ -1,3 +1,4 @@
 pub mod TapeLaws
 pub mod WholeLaws
 pub mod LedgerLaws
+pub mod WholeCaseLaws

@@ -10,97 +10,71 @@ use borrow.Author.Tests.{le-ltb, ne-eqb}
 use lib.Dec.{ltb, eqb}
 use lib.ListN.{length, length-append}
 use Rattle.base.specs.Words.{pick}
-use Rattle.base.proofs.Tests.{by-cases, yes, no, pick-case}
+use Rattle.base.proofs.Tests.{no, pick-case}
 use Rattle.record.specs.Part.{isPart}
-use Rattle.device.specs.World.{World}
-use Rattle.text.specs.declared.Request.{Request}
-use Rattle.text.specs.declared.Request.the-variants.{PartLine, ActLine, Bad}
-use Rattle.text.specs.Request.{requestOf}
-use Rattle.text.specs.Print.{newline, answerRoom}
-use Rattle.answers.specs.Answer.{Setup, setup, Answered, refusedLine, requestAnswer, lineAnswer, answerText}
-use Rattle.tape.specs.Tape.{lastLine, linesFrom, answersTo, tapeAnswers, emptySetup, State, state, kept, Fed, fedTo, ended, fedByte, after, fed, finished, answersFrom, takenWithin}
+use Rattle.record.specs.World.{World}
+use Rattle.lines.specs.declared.Request.{Request}
+use Rattle.lines.specs.declared.Request.the-variants.{PartLine, ActLine, Bad}
+use Rattle.lines.specs.Request.{requestOf}
+use Rattle.text.specs.Bytes.{newline}
+use Rattle.lines.specs.Print.{answerRoom}
+use Rattle.answers.specs.Answer.{Setup, setup, LineAnswer, refusedLine, requestAnswer, lineAnswer, answerText}
+use Rattle.tape.specs.Tape.{lastLine, linesFrom, answersTo, tapeAnswers, FedByLines, emptySetup, State, state, head, Fed, fedTo, fedByte, ahead, fed, finished, answersFrom, takenWithin}
 use Rattle.tape.specs.Steps.{setupAfter}
-use Rattle.tape.proofs.TapeLaws.{after-join, kept-join, kept-answers, fed-none}
+use Rattle.tape.proofs.TapeLaws.{ahead-join, head-join, head-answers}
 
 -- what lines answer, and what is left after them
 abbrev linesFed : Setup → List (List ℕ) → Fed
 linesFed s lines = fedTo (state (setupAfter s lines) []) (answersTo s lines)
 
 -- the end of a tape answers its last line
-last-fed : (s : Setup) (b : List ℕ) → finished (state s (kept b)) ≡ linesFed s (lastLine b)
+last-fed : (s : Setup) (b : List ℕ) → finished (state s (head b)) ≡ linesFed s (lastLine b)
 unfolding finished setupAfter answersTo
 last-fed s [] = refl
 last-fed s (c ∷ b) =
-    sym (no _ _ (ne-eqb (length (kept (c ∷ b))) 0 (λ e. omega arith)))
-    ∙ ap (λ (a : Answered). fedTo (state (a .after) []) (answerText a)) (kept-answers (c ∷ b) s)
+    sym (no _ _ (ne-eqb (length (head (c ∷ b))) 0 (λ e. omega arith)))
+    ∙ ap (λ (a : LineAnswer). fedTo (state (a .after) []) (answerText a)) (head-answers (c ∷ b) s)
     ∙ ap (fedTo (state (lineAnswer (c ∷ b) s .after) [])) (sym (append-nil (answerText (lineAnswer (c ∷ b) s))))
-
-lines-none : (b : List ℕ) → lastLine b ≡ linesFrom b []
-unfolding linesFrom
-lines-none b = refl
-
--- a byte that ends a line, and one that does not
-fed-end : (x : ℕ) (bytes : List ℕ) (s : State) → eqb x newline ≡ true → fed s (x ∷ bytes) ≡ after (ended s .answers) (fed (ended s .after) bytes)
-unfolding fed
-fed-end x bytes s t = ap (λ (f : Fed). after (f .answers) (fed (f .after) bytes)) (sym (yes _ _ t))
-
-fed-more :
-    (x : ℕ) (bytes : List ℕ) (s : Setup) (b : List ℕ) → eqb x newline ≡ false
-    → fed (state s (kept b)) (x ∷ bytes) ≡ fed (state s (kept (b ++ (x ∷ [])))) bytes
-unfolding fed
-fed-more x bytes s b t =
-    ap (λ (f : Fed). after (f .answers) (fed (f .after) bytes)) (sym (no _ _ t))
-    ∙ ap (λ (r : List ℕ). fed (state s r) bytes) (kept-join b (x ∷ []))
-
-lines-end : (x : ℕ) (bytes b : List ℕ) → eqb x newline ≡ true → linesFrom b (x ∷ bytes) ≡ b ∷ linesFrom [] bytes
-unfolding linesFrom
-lines-end x bytes b t = sym (yes _ _ t)
-
-lines-more : (x : ℕ) (bytes b : List ℕ) → eqb x newline ≡ false → linesFrom b (x ∷ bytes) ≡ linesFrom (b ++ (x ∷ [])) bytes
-unfolding linesFrom
-lines-more x bytes b t = sym (no _ _ t)
 
 -- a tape to its end
 abbrev toEnd : Fed → Fed
-toEnd f = after (f .answers) (finished (f .after))
+toEnd f = ahead (f .answers) (finished (f .after))
+
+-- what holds of both answers of two choices by one test
+pick-both : {A B : Type 0} (P : A → B → Type 0) (t : Bool) {a b : A} {c d : B} → P a c → P b d → P (pick t a b) (pick t c d)
+pick-both P true p q = p
+pick-both P false p q = q
 
 -- fed byte by byte and ended, a tape answers and leaves what its lines do
-fed-lines : (bytes : List ℕ) (s : Setup) (b : List ℕ) → toEnd (fed (state s (kept b)) bytes) ≡ linesFed s (linesFrom b bytes)
-unfolding setupAfter answersTo
-fed-lines [] s b = ap toEnd (fed-none (state s (kept b))) ∙ last-fed s b ∙ ap (linesFed s) (lines-none b)
+fed-lines : (bytes : List ℕ) (s : Setup) (b : List ℕ) → toEnd (fed (state s (head b)) bytes) ≡ linesFed s (linesFrom b bytes)
+unfolding setupAfter answersTo fed linesFrom
+fed-lines [] s b = last-fed s b
 fed-lines (x ∷ bytes) s b =
-    by-cases (eqb x newline)
-    (λ t.
-    let a = lineAnswer (kept b) s in
+    let a = lineAnswer (head b) s in
     let f = fed (state (a .after) []) bytes in
-    ap toEnd (fed-end x bytes (state s (kept b)) t)
-    ∙ sym (after-join (answerText a) (f .answers) (finished (f .after)))
-    ∙ ap (after (answerText a)) (fed-lines bytes (a .after) [])
-    ∙ ap (λ (y : Answered). after (answerText y) (linesFed (y .after) (linesFrom [] bytes))) (kept-answers b s)
-    ∙ ap (linesFed s) (sym (lines-end x bytes b t)))
-    (λ t. ap toEnd (fed-more x bytes s b t) ∙ fed-lines bytes s (b ++ (x ∷ [])) ∙ ap (linesFed s) (sym (lines-more x bytes b t)))
+    pick-both (λ (g : Fed) (lines : List (List ℕ)). toEnd (ahead (g .answers) (fed (g .after) bytes)) ≡ linesFed s lines) (eqb x newline)
+    (sym (ahead-join (answerText a) (f .answers) (finished (f .after)))
+    ∙ ap (ahead (answerText a)) (fed-lines bytes (a .after) [])
+    ∙ ap (λ (y : LineAnswer). ahead (answerText y) (linesFed (y .after) (linesFrom [] bytes))) (head-answers b s))
+    (ap (λ (r : List ℕ). toEnd (ahead [] (fed (state s r) bytes))) (head-join b (x ∷ [])) ∙ fed-lines bytes s (b ++ (x ∷ [])))
 
-pub answers-lines : (bytes : List ℕ) (s : Setup) (b : List ℕ) → answersFrom (state s (kept b)) bytes ≡ answersTo s (linesFrom b bytes)
+pub answers-lines : (bytes : List ℕ) (s : Setup) (b : List ℕ) → answersFrom (state s (head b)) bytes ≡ answersTo s (linesFrom b bytes)
 answers-lines bytes s b = ap (λ (f : Fed). f .answers) (fed-lines bytes s b)
 
 pub setup-lines :
-    (bytes : List ℕ) (s : Setup) (b : List ℕ) → finished (fed (state s (kept b)) bytes .after) .after .setup ≡ setupAfter s (linesFrom b bytes)
+    (bytes : List ℕ) (s : Setup) (b : List ℕ) → finished (fed (state s (head b)) bytes .after) .after .setup ≡ setupAfter s (linesFrom b bytes)
 setup-lines bytes s b = ap (λ (f : Fed). f .after .setup) (fed-lines bytes s b)
 
 -- before a part the chip tells nothing
-same-choice : (g : Answered → List ℕ) (t : Bool) (x y u : Answered) → g y ≡ g u → g (pick t x y) ≡ g (pick t x u)
-same-choice g true x y u e = refl
-same-choice g false x y u e = e
-
 before-part :
     (r : Request) (lines : List (List ℕ)) (v w : World) → answersTo (setup 0 v) lines ≡ answersTo (setup 0 w) lines
     → answerText (requestAnswer r (setup 0 v)) ++ answersTo (requestAnswer r (setup 0 v) .after) lines
     ≡ answerText (requestAnswer r (setup 0 w)) ++ answersTo (requestAnswer r (setup 0 w) .after) lines
 unfolding answerText
-before-part (PartLine n) lines v w e =
-    same-choice (λ (a : Answered). answerText a ++ answersTo (a .after) lines) (isPart n) _ _ _
-    (ap (λ (l : List ℕ). answerText (refusedLine 3 (setup 0 v)) ++ l) e)
-before-part (ActLine a n) lines v w e = ap (λ (l : List ℕ). answerText (refusedLine 7 (setup 0 v)) ++ l) e
+before-part (PartLine arg) lines v w e =
+    let t : LineAnswer → List ℕ = λ a. answerText a ++ answersTo (a .after) lines in
+    pick-both (λ (x y : LineAnswer). t x ≡ t y) (isPart arg) refl (ap (λ (l : List ℕ). answerText (refusedLine 3 (setup 0 v)) ++ l) e)
+before-part (ActLine act arg) lines v w e = ap (λ (l : List ℕ). answerText (refusedLine 7 (setup 0 v)) ++ l) e
 before-part Bad lines v w e = ap (λ (l : List ℕ). answerText (refusedLine 7 (setup 0 v)) ++ l) e
 
 pub before-any : (lines : List (List ℕ)) (v w : World) → answersTo (setup 0 v) lines ≡ answersTo (setup 0 w) lines
@@ -109,8 +83,8 @@ before-any [] v w = refl
 before-any (line ∷ lines) v w = before-part (requestOf line) lines v w (before-any lines v w)
 
 -- the answers to a whole tape, as it comes
-pub tape-whole : (w : World) (bytes : List ℕ) → answersFrom (state (setup 0 w) []) bytes ≡ tapeAnswers bytes
-unfolding tapeAnswers
+pub tape-whole : FedByLines
+unfolding FedByLines tapeAnswers
 tape-whole w bytes = answers-lines bytes (setup 0 w) [] ∙ before-any (linesFrom [] bytes) w (emptySetup .chip)
 
 -- how many bytes a call takes: no more than there are; some, where there is room for an answer; all, where all the answers have room

@@ -3,7 +3,7 @@ use record::Device;
 
 pub mod chunk; // chunk.rt: a tape as it comes, chunk by chunk
 
-// A tape between two chunks: its part, 0 while none is accepted, the chip's record, and how many bytes of a line that has not ended are kept.
+// A tape between two chunks: its part, 0 while none is accepted, the chip's record, and how long the head of a line that has not ended is.
 pub struct Tape {
     pub part: u64,
     pub device: Device,

@@ -1,4 +1,3 @@
-pub mod TextLaws
-pub mod NumberLaws
-pub mod PrintLaws
-pub mod LineLaws
+pub mod BytesLaws
+pub mod BufferLaws
+pub mod DecimalLaws

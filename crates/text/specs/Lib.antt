@@ -1,5 +1,3 @@
-pub mod Text
-pub mod Line
-pub mod Number
-pub mod Request
-pub mod Print
+pub mod Bytes
+pub mod Buffer
+pub mod Decimal

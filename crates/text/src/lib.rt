@@ -1,20 +1,12 @@
-// The text of a tape: what a line asks for, and an answer's line. It has the acts by name and knows nothing of the chip.
-use record::Act;
+// Bytes: parts of a slice, words and kinds of bytes, buffers, decimals. It knows of no chip and of no tape.
 
-pub mod line; // line.rt: a line, its parts, and what it asks for
-pub mod number; // number.rt: numbers and their text
-pub mod print; // print.rt: an answer's line
+pub mod buffer; // buffer.rt: bytes put into a lent buffer
+pub mod bytes; // bytes.rt: parts of a slice, words, leading bytes of a kind
+pub mod decimal; // decimal.rt: decimals, read and put
 
-// What the name of a line is: `part`, an act's, or no name.
-pub enum Name {
-    PartName,
-    ActName(Act),
-    Unknown,
-}
-
-// What a line asks for: a part, an act with its number, or nothing, being bad (number 7).
-pub enum Request {
-    PartLine(u64),
-    ActLine(Act, u64),
-    Bad,
+// A kind of byte: a small letter, a digit, any byte that ends no line.
+pub enum Kind {
+    Letter,
+    Digit,
+    Plain,
 }

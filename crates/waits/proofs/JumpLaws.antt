@@ -9,22 +9,22 @@ use borrow.Author.Tests.{ltb-true, lt-ltb, le-ltb, eqb-true, eqb-false, eq-eqb, 
 use lib.Dec.{ltb, eqb}
 use lib.ListN.{getD}
 use Rattle.base.specs.Words.{pick}
-use Rattle.base.proofs.Tests.{by-cases, pick-case, true-false, neither}
+use Rattle.base.specs.Wait.{plus}
+use Rattle.base.proofs.Tests.{by-cases, pick-case, true-false}
+use Rattle.base.proofs.WaitLaws.{Jumps, wait-jump}
 use Rattle.record.specs.declared.Device.{Device}
 use Rattle.record.specs.declared.Counters.{Counters}
-use Rattle.record.specs.Registers.{watchdogAt, periodOf, startupTicks, dividerTicks}
-use Rattle.block.specs.Setters.{withCounters}
-use Rattle.block.specs.Registers.{oscon}
-use Rattle.block.specs.Lines.{irqLow, wdoLow, wip, changed}
-use Rattle.device.specs.Oscillator.{asked, oscillatorTick}
-use Rattle.device.specs.Watchdog.{watchdogTick}
-use Rattle.device.specs.Clock.{running, hundredthDue, calendarTick}
-use Rattle.device.specs.Tick.{withLeft, cycleDevice, alarmTick, clockwork, alive}
-use Rattle.device.specs.RecordTick.{deviceTick, DeviceWaited, plusDevice, deviceWaited}
-use Rattle.waits.specs.Jump.{Quiet, counts, runs, jumpedCounters, jumped, above, watched, gap, divided, quietTicks}
-use Rattle.block.proofs.LineLaws.{differ-same}
-use Rattle.device.proofs.ClockLaws.{clock-still}
-use Rattle.device.proofs.WaitLaws.{device-wait-go}
+use Rattle.record.specs.Registers.{oscon, watchdogAt, periodOf, dividerTicks}
+use Rattle.record.specs.Setters.{withCounters, withLeft}
+use Rattle.ticks.specs.Lines.{irqLow, wdoLow, wip, changed}
+use Rattle.ticks.specs.Oscillator.{starting, oscillatorTick}
+use Rattle.ticks.specs.Watchdog.{watchdogTick}
+use Rattle.ticks.specs.Clock.{running, hundredthDue, calendarTick, alarmTick}
+use Rattle.ticks.specs.Tick.{cycleDevice, clockwork, alive}
+use Rattle.ticks.specs.RecordTick.{deviceTick, deviceWaited}
+use Rattle.waits.specs.Jump.{Quiet, watchdogRuns, clockRuns, jumpedCounters, jumped, above, watched, gap, divided, quietTicks}
+use Rattle.ticks.proofs.LineLaws.{changed-same}
+use Rattle.ticks.proofs.ClockLaws.{clock-still}
 
 -- two counters are equal field by field
 pub counters-same :
@@ -47,19 +47,19 @@ watchdogCounters d =
     record {
       divider = d .counters .divider;
       startup = d .counters .startup;
-      watchdog = pick (counts d && eqb (d .counters .delay) 0) (d .counters .watchdog + 1) (d .counters .watchdog);
-      delay = pick (counts d) (d .counters .delay - 1) (d .counters .delay);
+      watchdog = pick (watchdogRuns d && eqb (d .counters .delay) 0) (d .counters .watchdog + 1) (d .counters .watchdog);
+      delay = pick (watchdogRuns d) (d .counters .delay - 1) (d .counters .delay);
       pulse = d .counters .pulse - 1;
     }
 
 watchdog-one :
     (d : Device)
-    → (counts d ≡ true → eqb (d .counters .delay) 0 ≡ true → d .counters .watchdog + 1 < periodOf (getD (d .regs) watchdogAt 0))
+    → (watchdogRuns d ≡ true → eqb (d .counters .delay) 0 ≡ true → d .counters .watchdog + 1 < periodOf (getD (d .regs) watchdogAt 0))
     → watchdogTick (oscon (d .counters)) d
     ≡ withCounters d (watchdogCounters d)
 unfolding watchdogTick
 watchdog-one d h =
-    by-cases (counts d)
+    by-cases (watchdogRuns d)
     (λ n.
     by-cases (eqb (d .counters .delay) 0)
     (λ z.
@@ -94,14 +94,14 @@ clock-one counted d h small =
     (λ n. sym (clock-still counted d (rw n)) ∙ rw n)
 
 -- the oscillator's part changes nothing
-oscillator-one : (boots : Bool) (d : Device) → (asked boots (d .regs) && ltb (d .counters .startup) startupTicks) ≡ false → oscillatorTick boots d ≡ d
+oscillator-one : (boots : Bool) (d : Device) → starting boots d ≡ false → oscillatorTick boots d ≡ d
 unfolding oscillatorTick
 oscillator-one boots d e = rw e
 
 clockwork-one :
-    (boots : Bool) (d : Device) → (asked boots (d .regs) && ltb (d .counters .startup) startupTicks) ≡ false
-    → (counts d ≡ true → eqb (d .counters .delay) 0 ≡ true → d .counters .watchdog + 1 < periodOf (getD (d .regs) watchdogAt 0))
-    → (runs d ≡ true → hundredthDue (d .counters .divider) ≡ false) → (runs d ≡ true → d .counters .divider + 1 < dividerTicks)
+    (boots : Bool) (d : Device) → starting boots d ≡ false
+    → (watchdogRuns d ≡ true → eqb (d .counters .delay) 0 ≡ true → d .counters .watchdog + 1 < periodOf (getD (d .regs) watchdogAt 0))
+    → (clockRuns d ≡ true → hundredthDue (d .counters .divider) ≡ false) → (clockRuns d ≡ true → d .counters .divider + 1 < dividerTicks)
     → clockwork boots d ≡ withCounters d (jumpedCounters 1 d)
 unfolding clockwork
 clockwork-one boots d steady w h small =
@@ -116,7 +116,7 @@ unfolding deviceTick jumped
 quiet-tick boots k d q =
     rw (q .live)
     (ap (clockwork boots) (cycle-jump boots k d q)
-    ∙ clockwork-one boots (withLeft d (d .cycle .left - 1)) (q .steady) (λ n z. omega (arith, q .watchdog n z))
+    ∙ clockwork-one boots (withLeft d (d .cycle .left - 1)) (q .started) (λ n z. omega (arith, q .watchdog n z))
     (λ n. q .still n (d .counters .divider) (omega arith) (omega arith)) (λ n. omega (arith, q .small n)))
 
 -- leaves one tick less of the kind
@@ -125,7 +125,7 @@ unfolding jumped
 quiet-less boots k d q =
     record {
       live = q .live;
-      steady = q .steady;
+      started = q .started;
       cycle = ⊎-elim (λ z. inl (omega arith)) (λ l. inr (omega arith)) (q .cycle);
       pulse = ⊎-elim (λ z. inl (omega arith)) (λ l. inr (omega arith)) (q .pulse);
       delay =
@@ -153,7 +153,7 @@ unfolding jumped changed irqLow wdoLow
 quiet-lines boots k d q =
     let p : ltb 0 (d .counters .pulse - 1) ≡ ltb 0 (d .counters .pulse) = same-above (d .counters .pulse) (⊎-elim (λ z. inl z) (λ l. inr (omega arith)) (q .pulse)) in
     let c : ltb 0 (d .cycle .left - 1) ≡ ltb 0 (d .cycle .left) = same-above (d .cycle .left) (⊎-elim (λ z. inl z) (λ l. inr (omega arith)) (q .cycle)) in
-    rw (p, c) (neither (neither (differ-same (irqLow d)) (differ-same (wdoLow d))) (differ-same (wip d)))
+    rw (p, c) (changed-same d)
 
 -- and k of them are a jump
 pub both-same : (d : Device) {x y : ℕ} {a b : Counters} → x ≡ y → a ≡ b → withCounters (withLeft d x) a ≡ withCounters (withLeft d y) b
@@ -167,17 +167,17 @@ jump-none : (d : Device) → jumped 0 d ≡ d
 unfolding jumped
 jump-none d =
     both-same d {y = d .cycle .left} {b = d .counters} (omega arith)
-    (counters-same (picked (runs d) _ _ (omega arith)) refl (picked (counts d && eqb (d .counters .delay) 0) _ _ (omega arith))
-    (picked (counts d) _ _ (omega arith)) (omega arith))
+    (counters-same (picked (clockRuns d) _ _ (omega arith)) refl (picked (watchdogRuns d && eqb (d .counters .delay) 0) _ _ (omega arith))
+    (picked (watchdogRuns d) _ _ (omega arith)) (omega arith))
 
 jump-jump : (boots : Bool) (k : ℕ) (d : Device) → Quiet boots (suc k) d → jumped k (jumped 1 d) ≡ jumped (suc k) d
 unfolding jumped
 jump-jump boots k d q =
     both-same d (omega arith)
     (counters-same
-    (by-cases (runs d) (λ n. rw n (omega arith)) (λ n. rw n))
+    (by-cases (clockRuns d) (λ n. rw n (omega arith)) (λ n. rw n))
     refl
-    (by-cases (counts d)
+    (by-cases (watchdogRuns d)
     (λ n.
     by-cases (eqb (d .counters .delay) 0)
     (λ z.
@@ -187,31 +187,17 @@ jump-jump boots k d q =
     let y : eqb (d .counters .delay - 1) 0 ≡ false = ne-eqb (d .counters .delay - 1) 0 (λ e. omega (arith, q .delay n z)) in
     rw (n, z, y)))
     (λ n. rw n))
-    (by-cases (counts d) (λ n. rw n (omega arith)) (λ n. rw n))
+    (by-cases (watchdogRuns d) (λ n. rw n (omega arith)) (λ n. rw n))
     (omega arith))
 
-plus-none : (r : DeviceWaited) → r ≡ plusDevice 0 r
-plus-none r = let p : r .used ≡ 0 + r .used = omega arith in λ i. record { used = p i; device = r .device }
-
-plus-plus : (k : ℕ) (r : DeviceWaited) → plusDevice 1 (plusDevice k r) ≡ plusDevice (suc k) r
-plus-plus k r = let p : 1 + (k + r .used) ≡ suc k + r .used = omega arith in λ i. record { used = p i; device = r .device }
-
 -- A wait passes over ticks in which only counts move.
-pub wait-jump :
-    (boots : Bool) (k m : ℕ) (d : Device) → Quiet boots k d
-    → deviceWaited boots (m + k) d ≡ plusDevice k (deviceWaited boots m (jumped k d))
-wait-jump boots zero m d q =
-    let n : m + 0 ≡ m = omega arith in
-    ap (λ (j : ℕ). deviceWaited boots j d) n ∙ ap (deviceWaited boots m) (sym (jump-none d)) ∙ plus-none (deviceWaited boots m (jumped 0 d))
-wait-jump boots (suc k) m d q =
-    let n : m + suc k ≡ (m + k) + 1 = omega arith in
-    let t : deviceTick boots d ≡ jumped 1 d = quiet-tick boots k d q in
-    let c : changed d (deviceTick boots d) ≡ false = ap (changed d) t ∙ quiet-lines boots k d q in
-    ap (λ (j : ℕ). deviceWaited boots j d) n ∙ device-wait-go boots (m + k) d c
-    ∙ ap (plusDevice 1)
-    (ap (deviceWaited boots (m + k)) t ∙ wait-jump boots k m (jumped 1 d) (quiet-less boots k d q)
-    ∙ ap (plusDevice k) (ap (deviceWaited boots m) (jump-jump boots k d q)))
-    ∙ plus-plus k (deviceWaited boots m (jumped (suc k) d))
+quiet-jumps : (boots : Bool) → Jumps (deviceTick boots) changed (Quiet boots) jumped
+quiet-jumps boots =
+    record { none = jump-none; one = quiet-tick boots; calm = quiet-lines boots; less = quiet-less boots; more = jump-jump boots }
+
+pub wait-passes :
+    (boots : Bool) (k m : ℕ) (d : Device) → Quiet boots k d → deviceWaited boots (m + k) d ≡ plus k (deviceWaited boots m (jumped k d))
+wait-passes boots = wait-jump (deviceTick boots) changed (Quiet boots) jumped (quiet-jumps boots)
 
 -- the hundredths stand still up to the gap
 gap-most : (s t : ℕ) → s < dividerTicks → s ≤ t → t < s + gap s → t + 1 ≤ ((100 * s / dividerTicks + 1) * dividerTicks - 1) / 100
@@ -239,26 +225,26 @@ above-less limit n k p h =
 
 watched-most : (limit : ℕ) (d : Device) → watched limit d ≤ limit
 watched-most limit d =
-    pick-case (λ (k : ℕ). k ≤ limit) (counts d)
+    pick-case (λ (k : ℕ). k ≤ limit) (watchdogRuns d)
     (pick-case (λ (k : ℕ). k ≤ limit) (eqb (d .counters .delay) 0) (omega arith) (omega arith)) (omega arith)
 
 watched-delay :
-    (limit : ℕ) (d : Device) (k : ℕ) → 0 < k → k ≤ watched limit d → counts d ≡ true → eqb (d .counters .delay) 0 ≡ false → k < d .counters .delay
+    (limit : ℕ) (d : Device) (k : ℕ) → 0 < k → k ≤ watched limit d → watchdogRuns d ≡ true → eqb (d .counters .delay) 0 ≡ false → k < d .counters .delay
 watched-delay limit d k p h n z = let g = rw (n, z) at h in omega arith
 
 watched-count :
-    (limit : ℕ) (d : Device) (k : ℕ) → 0 < k → k ≤ watched limit d → counts d ≡ true → eqb (d .counters .delay) 0 ≡ true
+    (limit : ℕ) (d : Device) (k : ℕ) → 0 < k → k ≤ watched limit d → watchdogRuns d ≡ true → eqb (d .counters .delay) 0 ≡ true
     → d .counters .watchdog + k < periodOf (getD (d .regs) watchdogAt 0)
 watched-count limit d k p h n z =
     let g = rw (n, z) at h in omega arith
 
 divided-most : (limit : ℕ) (d : Device) → divided limit d ≤ limit
 divided-most limit d =
-    pick-case (λ (k : ℕ). k ≤ limit) (runs d)
+    pick-case (λ (k : ℕ). k ≤ limit) (clockRuns d)
     (pick-case (λ (k : ℕ). k ≤ limit) (ltb (d .counters .divider) dividerTicks) (omega arith) (omega arith)) (omega arith)
 
 divided-gap :
-    (limit : ℕ) (d : Device) (k : ℕ) → 0 < k → k ≤ divided limit d → runs d ≡ true
+    (limit : ℕ) (d : Device) (k : ℕ) → 0 < k → k ≤ divided limit d → clockRuns d ≡ true
     → (d .counters .divider < dividerTicks) × (k ≤ gap (d .counters .divider))
 divided-gap limit d k p h n =
     by-cases (ltb (d .counters .divider) dividerTicks)
@@ -269,7 +255,7 @@ divided-gap limit d k p h n =
 
 quiet-of :
     (boots : Bool) (limit k : ℕ) (d : Device) → alive d ≡ true
-    → (asked boots (d .regs) && ltb (d .counters .startup) startupTicks) ≡ false → 0 < k
+    → starting boots d ≡ false → 0 < k
     → k ≤ divided (watched (above (above limit (d .cycle .left)) (d .counters .pulse)) d) d → Quiet boots k d
 quiet-of boots limit k d a e p h =
     let l : ℕ = above limit (d .cycle .left) in
@@ -280,7 +266,7 @@ quiet-of boots limit k d a e p h =
     let hl : k ≤ l = omega (arith, above-most l (d .counters .pulse)) in
     record {
       live = a;
-      steady = e;
+      started = e;
       cycle = above-less limit (d .cycle .left) k p hl;
       pulse = above-less l (d .counters .pulse) k p hu;
       delay = watched-delay u d k p hw;
@@ -301,14 +287,14 @@ unfolding quietTicks
 quiet-most boots limit d =
     let l : ℕ = above limit (d .cycle .left) in
     let u : ℕ = above l (d .counters .pulse) in
-    pick-case (λ (k : ℕ). k ≤ limit) (asked boots (d .regs) && ltb (d .counters .startup) startupTicks) (omega arith)
+    pick-case (λ (k : ℕ). k ≤ limit) (starting boots d) (omega arith)
     (omega (arith, divided-most (watched u d) d, watched-most u d, above-most l (d .counters .pulse), above-most limit (d .cycle .left)))
 
 pub quiet-ahead :
     (boots : Bool) (limit : ℕ) (d : Device) → alive d ≡ true → 0 < quietTicks boots limit d → Quiet boots (quietTicks boots limit d) d
 unfolding quietTicks
 quiet-ahead boots limit d a p =
-    by-cases (asked boots (d .regs) && ltb (d .counters .startup) startupTicks)
+    by-cases (starting boots d)
     (λ e. let z : 0 < 0 = rw e at p in absurd (omega arith))
     (λ e.
     let g : 0 < divided (watched (above (above limit (d .cycle .left)) (d .counters .pulse)) d) d = rw e at p in

@@ -9,23 +9,24 @@ use native.Mathlib.Omega.{arith}
 use lib.Dec.{ltb, eqb}
 use lib.ListN.{getD}
 use Rattle.base.specs.Words.{pick}
+use Rattle.base.specs.Wait.{Waited}
 use Rattle.base.proofs.Tests.{no, pick-when, both-left, both-right}
 use Rattle.record.specs.declared.Device.{Device}
-use Rattle.record.specs.Registers.{watchdogAt, startupTicks}
-use Rattle.block.specs.Setters.{withCounters}
-use Rattle.device.specs.Oscillator.{asked}
-use Rattle.device.specs.World.{World, world}
-use Rattle.device.specs.Tick.{withLeft, alive, Waited}
-use Rattle.device.specs.RecordTick.{DeviceWaited, plusDevice, deviceWaited}
+use Rattle.record.specs.Registers.{watchdogAt}
+use Rattle.record.specs.Setters.{withCounters, withLeft}
+use Rattle.ticks.specs.Oscillator.{starting}
+use Rattle.record.specs.World.{World, world}
+use Rattle.ticks.specs.Tick.{alive}
+use Rattle.ticks.specs.RecordTick.{deviceWaited}
 use Rattle.record.proofs.PeriodLaws.{period-most}
-use Rattle.device.proofs.WaitLaws.{WaitFrom, wait-dead, wait-both}
-use Rattle.waits.specs.Jump.{Quiet, counts, runs, jumped, above, watched, divided, quietTicks}
-use Rattle.waits.proofs.JumpLaws.{both-same, counters-same, wait-jump, quiet-most, quiet-ahead}
+use Rattle.ticks.proofs.WaitLaws.{wait-dead, wait-device}
+use Rattle.waits.specs.Jump.{Quiet, watchdogRuns, clockRuns, jumped, above, watched, divided, quietTicks}
+use Rattle.waits.proofs.JumpLaws.{both-same, counters-same, quiet-most, quiet-ahead}
 
 -- the number of quiet ticks, from one limit to the next
 pub quiet-parts :
     (boots : Bool) (limit : ℕ) (d : Device) {a b w r : ℕ}
-    → (asked boots (d .regs) && ltb (d .counters .startup) startupTicks) ≡ false
+    → starting boots d ≡ false
     → a ≡ above limit (d .cycle .left) → b ≡ above a (d .counters .pulse) → w ≡ watched b d → r ≡ divided w d
     → r ≡ quietTicks boots limit d
 unfolding quietTicks
@@ -43,18 +44,18 @@ quiet-within boots limit d e = omega (arith, quiet-most boots limit d)
 -- the counts that a jump raises fit
 pub divider-fits :
     (boots : Bool) (k : ℕ) (d : Device) → Quiet boots k d → d .counters .divider < 65536
-    → pick (runs d) (d .counters .divider + k) (d .counters .divider) < 65536
-divider-fits boots k d q h = pick-when (λ (n : ℕ). n < 65536) (runs d) (λ e. omega (arith, q .small e)) (λ e. h)
+    → pick (clockRuns d) (d .counters .divider + k) (d .counters .divider) < 65536
+divider-fits boots k d q h = pick-when (λ (n : ℕ). n < 65536) (clockRuns d) (λ e. omega (arith, q .small e)) (λ e. h)
 
 pub watchdog-fits :
     (boots : Bool) (k : ℕ) (d : Device) → Quiet boots k d → d .counters .watchdog < 4294967296
-    → pick (counts d && eqb (d .counters .delay) 0) (d .counters .watchdog + k) (d .counters .watchdog) < 4294967296
+    → pick (watchdogRuns d && eqb (d .counters .delay) 0) (d .counters .watchdog + k) (d .counters .watchdog) < 4294967296
 watchdog-fits boots k d q h =
-    pick-when (λ (n : ℕ). n < 4294967296) (counts d && eqb (d .counters .delay) 0)
+    pick-when (λ (n : ℕ). n < 4294967296) (watchdogRuns d && eqb (d .counters .delay) 0)
     (λ e.
     omega (
       arith,
-      q .watchdog (both-left (counts d) (eqb (d .counters .delay) 0) e) (both-right (counts d) (eqb (d .counters .delay) 0) e),
+      q .watchdog (both-left (watchdogRuns d) (eqb (d .counters .delay) 0) e) (both-right (watchdogRuns d) (eqb (d .counters .delay) 0) e),
       period-most (getD (d .regs) watchdogAt 0),
     ))
     (λ e. h)
@@ -68,10 +69,10 @@ pub jump-made :
     → d .cycle .left < 256 → d .counters .divider < 65536 → d .counters .watchdog < 4294967296 → d .counters .delay < 4294967296 → d .counters .pulse < 65536
     → withCounters (withLeft d ((d .cycle .left - k) % 256))
     (record {
-      divider = pick (runs d) (d .counters .divider + k) (d .counters .divider) % 65536;
+      divider = pick (clockRuns d) (d .counters .divider + k) (d .counters .divider) % 65536;
       startup = d .counters .startup;
-      watchdog = pick (counts d && eqb (d .counters .delay) 0) (d .counters .watchdog + k) (d .counters .watchdog) % 4294967296;
-      delay = pick (counts d) (d .counters .delay - k) (d .counters .delay) % 4294967296;
+      watchdog = pick (watchdogRuns d && eqb (d .counters .delay) 0) (d .counters .watchdog + k) (d .counters .watchdog) % 4294967296;
+      delay = pick (watchdogRuns d) (d .counters .delay - k) (d .counters .delay) % 4294967296;
       pulse = (d .counters .pulse - k) % 65536;
     })
     ≡ jumped k d
@@ -79,25 +80,15 @@ unfolding jumped
 jump-made boots k d q l s w y p =
     both-same d (omega arith)
     (counters-same (omega (arith, divider-fits boots k d q s)) refl (omega (arith, watchdog-fits boots k d q w))
-    (omega (arith, lowered-fits (counts d) (d .counters .delay) k 4294967296 y)) (omega arith))
+    (omega (arith, lowered-fits (watchdogRuns d) (d .counters .delay) k 4294967296 y)) (omega arith))
 
 -- a jump leaves the chip alive
 pub jumped-alive : (k : ℕ) (d : Device) → alive (jumped k d) ≡ alive d
 unfolding jumped
 jumped-alive k d = refl
 
--- a loop that counts the ticks left down may jump
-pub loop-jumps :
-    (boots : Bool) (n : ℕ) (first : Device) (left : ℕ) (d : Device) (k : ℕ) → k ≤ left → left ≤ n → Quiet boots k d
-    → WaitFrom boots n first left d → WaitFrom boots n first (left - k) (jumped k d)
-loop-jumps boots n first left d k h l q p =
-    let m : left ≡ left - k + k = omega arith in
-    let rest : DeviceWaited = deviceWaited boots (left - k) (jumped k d) in
-    p ∙ ap (λ (j : ℕ). plusDevice (n - left) (deviceWaited boots j d)) m ∙ ap (plusDevice (n - left)) (wait-jump boots k (left - k) d q)
-    ∙ ap (λ (j : ℕ). record { used = j; device = rest .device }) (omega arith)
-
 -- a chip that is not alive waits all the ticks, and nothing changes
-pub device-wait-dead : (boots : Bool) (n : ℕ) (d : Device) → alive d ≡ false → deviceWaited boots n d ≡ record { used = n; device = d }
+pub device-wait-dead : (boots : Bool) (n : ℕ) (d : Device) → alive d ≡ false → deviceWaited boots n d ≡ record { used = n; after = d }
 device-wait-dead boots n d a =
     let w : World = world d [] [] in
-    wait-both boots n w ∙ ap (λ (r : Waited). record { used = r .used; device = r .after .device }) (wait-dead boots n w a)
+    wait-device boots n w ∙ ap (λ (r : Waited World). record { used = r .used; after = r .after .device }) (wait-dead boots n w a)

@@ -1,13 +1,12 @@
 // Ticks in which only counts move, taken at once.
 use record::Cycle;
 use record::Device;
-use record::registers::STARTUP_TICKS;
 use record::registers::WATCHDOG;
 ghost use mathlib.Core.Path.{_≡_};
 ghost use Prim.Native.Nat.{_+_, _-_, _<_, min};
 ghost use Rattle.base.specs.Words.{pick};
 ghost use Rattle.record.specs.Registers.{dividerTicks};
-ghost use Rattle.waits.specs.Jump.{counts, runs, jumped, above, watched, gap, divided, Quiet, quietTicks};
+ghost use Rattle.waits.specs.Jump.{watchdogRuns, clockRuns, jumped, above, watched, gap, divided, Quiet, quietTicks};
 
 // The ticks of a second.
 const SECOND: u64 = record::registers::DIVIDER_TICKS as u64;
@@ -26,19 +25,19 @@ fn least(a: u64, b: u64) -> u64
 }
 
 // The watchdog counts.
-fn watchdog_counts(d: Device) -> bool
-    ensures { λ r. ⌜ r ≡ counts d ⌝ }
+fn watchdog_runs(d: Device) -> bool
+    ensures { λ r. ⌜ r ≡ watchdogRuns d ⌝ }
 {
-    let counted = block::registers::is_oscon(d.counters);
-    device::watchdog::is_counting(counted, d.regs[WATCHDOG])
+    let counted = record::registers::is_oscon(d.counters);
+    ticks::watchdog::is_counting(counted, d.regs[WATCHDOG])
 }
 
 // Divider and calendar run.
 fn clock_runs(d: Device) -> bool
-    ensures { λ r. ⌜ r ≡ runs d ⌝ }
+    ensures { λ r. ⌜ r ≡ clockRuns d ⌝ }
 {
-    let counted = block::registers::is_oscon(d.counters);
-    device::clock::is_running(counted, d)
+    let counted = record::registers::is_oscon(d.counters);
+    ticks::clock::is_running(counted, d)
 }
 
 // How far a count may fall and stay above 0.
@@ -55,7 +54,7 @@ fn watchdog_quiet(limit: u64, d: Device) -> u64
     ensures { λ r. ⌜ r ≡ watched limit d ⌝ }
 {
     let c = d.counters;
-    let counting = watchdog_counts(d);
+    let counting = watchdog_runs(d);
     if counting {
         if c.delay == 0 {
             let most = record::registers::period(d.regs[WATCHDOG]) as u64;
@@ -96,8 +95,8 @@ pub fn quiet_ticks(boots: bool, limit: u64, d: Device) -> u64
 {
     let c = d.counters;
     let y = d.cycle;
-    let asked = device::oscillator::is_asked(boots, d);
-    if asked & (c.startup < STARTUP_TICKS) {
+    let starts = ticks::oscillator::is_starting(boots, d);
+    if starts {
         return 0;
     }
     let a = stays_above(limit, y.left as u64);
@@ -106,7 +105,7 @@ pub fn quiet_ticks(boots: bool, limit: u64, d: Device) -> u64
     divider_quiet(w, d)
 }
 
-fn raised(go: bool, n: u64, k: u64) -> u64
+fn grown(go: bool, n: u64, k: u64) -> u64
     requires { ⌜ pick go (n + k) n < 4294967296 ⌝ }
     ensures { λ r. ⌜ r ≡ pick go (n + k) n ⌝ }
 {
@@ -124,14 +123,14 @@ pub fn jump(boots: bool, k: u64, d: Device) -> Device
     requires { ⌜ Quiet boots k d ⌝ }
     ensures { λ r. ⌜ r ≡ jumped k d ⌝ }
 {
-    let counting = watchdog_counts(d);
+    let counting = watchdog_runs(d);
     let running = clock_runs(d);
     let old = d.counters;
     let y = d.cycle;
     let target = y.target;
     let left = (fallen(y.left as u64, k) % 256) as u8;
-    let divider = (raised(running, old.divider as u64, k) % 65536) as u16;
-    let watchdog = (raised(counting & (old.delay == 0), old.watchdog as u64, k)
+    let divider = (grown(running, old.divider as u64, k) % 65536) as u16;
+    let watchdog = (grown(counting & (old.delay == 0), old.watchdog as u64, k)
         % 4294967296) as u32;
     let delay = (lowered(counting, old.delay as u64, k) % 4294967296) as u32;
     let pulse = (fallen(old.pulse as u64, k) % 65536) as u16;

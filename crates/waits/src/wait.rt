@@ -3,7 +3,7 @@ use crate::jump::jump;
 use crate::jump::quiet_ticks;
 use record::Device;
 ghost use mathlib.Core.Path.{_≡_};
-ghost use Rattle.device.specs.RecordTick.{deviceWaited};
+ghost use Rattle.ticks.specs.RecordTick.{deviceWaited};
 
 pub struct Waited {
     pub used: u64,
@@ -11,9 +11,9 @@ pub struct Waited {
 }
 
 pub fn wait_device(boots: bool, n: u64, d: Device) -> Waited
-    ensures { λ r. ⌜ (r .used ≡ deviceWaited boots n d .used) × (r .device ≡ deviceWaited boots n d .device) ⌝ }
+    ensures { λ r. ⌜ (r .used ≡ deviceWaited boots n d .used) × (r .device ≡ deviceWaited boots n d .after) ⌝ }
 {
-    let alive = device::tick::is_alive(d);
+    let alive = ticks::tick::is_alive(d);
     if !alive {
         return Waited { used: n, device: d };
     }
@@ -26,8 +26,8 @@ pub fn wait_device(boots: bool, n: u64, d: Device) -> Waited
             left -= k;
             continue;
         }
-        let after = device::tick::device_tick(boots, now_device);
-        let stops = block::lines::lines_changed(now_device, after);
+        let after = ticks::tick::device_tick(boots, now_device);
+        let stops = ticks::lines::lines_changed(now_device, after);
         now_device = after;
         left -= 1;
         if stops {

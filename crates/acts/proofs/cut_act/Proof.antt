@@ -1,7 +1,7 @@
 -- The page is stored under the mask where a cycle runs.
 -- Assumes nothing.
 use borrow.Author.Tests.{eq-eqb, ne-eqb}
-use Rattle.frames.specs.Power.{cutWorld}
+use Rattle.power.specs.Power.{cutWorld}
 use borrow.Author.Needs.{needs}
 use Rattle.acts.proofs.cut_act.Statement.{statement}
 use Rattle.acts.proofs.cut_act.Tie as tie

@@ -2,8 +2,8 @@
 -- Assumes nothing.
 use mathlib.Core.Path.{sym}
 use denote.Ref.{now}
-use Rattle.device.specs.World.{world}
-use Rattle.device.proofs.WaitLaws.{wait-settled}
+use Rattle.record.specs.World.{world}
+use Rattle.ticks.proofs.WaitLaws.{wait-settled}
 use borrow.Author.Needs.{needs}
 use Rattle.acts.proofs.wait_act.Statement.{statement}
 use Rattle.acts.proofs.wait_act.Tie as tie

@@ -1,33 +1,9 @@
--- `calendar::advance` meets its contract. A straight line of promises.
+-- `advance` answers `advanced`: the promises of its calls, from the last to the first.
 -- Assumes nothing.
 use Rattle.calendar.specs.Time.{advanced}
 use borrow.Author.Needs.{needs}
 use Rattle.calendar.proofs.advance.Statement.{statement}
 use Rattle.calendar.proofs.advance.Tie as tie
-
-next-hundredths-requires : tie.Need-next-hundredths-requires
-next-hundredths-requires c κs = search needs
-
-next-seconds-requires : tie.Need-next-seconds-requires
-next-seconds-requires c κs = search needs
-
-on-carry-requires : tie.Need-on-carry-requires
-on-carry-requires c κs = search needs
-
-next-minutes-requires : tie.Need-next-minutes-requires
-next-minutes-requires c κs = search needs
-
-on-carry-requires-2 : tie.Need-on-carry-requires-2
-on-carry-requires-2 c κs = search needs
-
-next-hours-requires : tie.Need-next-hours-requires
-next-hours-requires c κs = search needs
-
-on-carry-requires-3 : tie.Need-on-carry-requires-3
-on-carry-requires-3 c κs = search needs
-
-on-day-requires : tie.Need-on-day-requires
-on-day-requires c κs = search needs
 
 returns : tie.Need-returns
 unfolding advanced
@@ -47,13 +23,5 @@ returns c =
 pub advance-spec : {M : Type 1} → statement M
 advance-spec =
     tie.close
-    (tie.spec
-    next-hundredths-requires
-    next-seconds-requires
-    on-carry-requires
-    next-minutes-requires
-    on-carry-requires-2
-    next-hours-requires
-    on-carry-requires-3
-    on-day-requires
-    returns)
+    (tie.spec (λ c κs. search needs) (λ c κs. search needs) (λ c κs. search needs) (λ c κs. search needs) (λ c κs. search needs)
+    (λ c κs. search needs) (λ c κs. search needs) (λ c κs. search needs) returns)

@@ -1,4 +1,4 @@
--- `calendar::date_of` meets its contract. The code is the definition.
+-- `date_of` answers `dateOf`: the code is the definition.
 -- Assumes nothing.
 use mathlib.Core.Path.{refl}
 use Rattle.calendar.specs.Time.{dateOf}

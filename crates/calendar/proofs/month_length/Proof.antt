@@ -1,4 +1,4 @@
--- `calendar::month_length` meets its contract. By the tests on the way to each answer, which are the definition's in its order.
+-- `month_length` answers `monthLength`: by the tests on the way to each answer, which are the definition's in its order.
 -- Assumes nothing.
 use borrow.Author.Tests.{eq-eqb, ne-eqb}
 use mathlib.Core.Path.{sym}
@@ -6,9 +6,6 @@ use Rattle.calendar.specs.Date.{monthLength}
 use borrow.Author.Needs.{needs}
 use Rattle.calendar.proofs.month_length.Statement.{statement}
 use Rattle.calendar.proofs.month_length.Tie as tie
-
-valid-month-requires : tie.Need-valid-month-requires
-valid-month-requires c κs = search needs
 
 returns : tie.Need-returns
 unfolding monthLength
@@ -32,4 +29,4 @@ returns-5 c = simp (sym (c .before .before .before .valid-month .ensures), c .be
 
 pub month-length-spec : {M : Type 1} → statement M
 month-length-spec =
-    tie.close (tie.spec valid-month-requires returns returns-2 returns-3 returns-4 returns-5)
+    tie.close (tie.spec (λ c κs. search needs) returns returns-2 returns-3 returns-4 returns-5)

@@ -1,33 +1,9 @@
--- `calendar::next_date` meets its contract. A straight line of promises.
+-- `next_date` answers `nextDate`: the promises of its calls, from the last to the first.
 -- Assumes nothing.
 use Rattle.calendar.specs.Date.{nextDate}
 use borrow.Author.Needs.{needs}
 use Rattle.calendar.proofs.next_date.Statement.{statement}
 use Rattle.calendar.proofs.next_date.Tie as tie
-
-next-field-requires : tie.Need-next-field-requires
-next-field-requires c κs = search needs
-
-leap-requires : tie.Need-leap-requires
-leap-requires c κs = search needs
-
-month-length-requires : tie.Need-month-length-requires
-month-length-requires c κs = search needs
-
-next-field-requires-2 : tie.Need-next-field-requires-2
-next-field-requires-2 c κs = search needs
-
-next-field-requires-3 : tie.Need-next-field-requires-3
-next-field-requires-3 c κs = search needs
-
-on-carry-requires : tie.Need-on-carry-requires
-on-carry-requires c κs = search needs
-
-next-field-requires-4 : tie.Need-next-field-requires-4
-next-field-requires-4 c κs = search needs
-
-on-carry-requires-2 : tie.Need-on-carry-requires-2
-on-carry-requires-2 c κs = search needs
 
 returns : tie.Need-returns
 unfolding nextDate
@@ -47,13 +23,5 @@ returns c =
 pub next-date-spec : {M : Type 1} → statement M
 next-date-spec =
     tie.close
-    (tie.spec
-    next-field-requires
-    leap-requires
-    month-length-requires
-    next-field-requires-2
-    next-field-requires-3
-    on-carry-requires
-    next-field-requires-4
-    on-carry-requires-2
-    returns)
+    (tie.spec (λ c κs. search needs) (λ c κs. search needs) (λ c κs. search needs) (λ c κs. search needs) (λ c κs. search needs)
+    (λ c κs. search needs) (λ c κs. search needs) (λ c κs. search needs) returns)

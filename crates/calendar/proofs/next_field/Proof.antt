@@ -1,4 +1,4 @@
--- `calendar::next_field` meets its contract. Where the test held, the value is valid, so its successor fits a byte.
+-- `next_field` answers `nextField`. Where the test held, the value is valid (`valid-is`), so its successor fits a byte.
 -- Assumes nothing.
 use mathlib.Core.Path.{_≡_, sym, _∙_}
 use mathlib.Core.Bool.{Bool, true, _&&_}
@@ -16,29 +16,11 @@ use Rattle.calendar.proofs.next_field.Tie as tie
 tested : {r : Bool} (first last x : ℕ) → r ≡ validField first last x → (r && ltb x last) ≡ true → Valid first last x
 tested {r} first last x e t = valid-is first last x (sym e ∙ both-left r (ltb x last) t)
 
-valid-field-requires : tie.Need-valid-field-requires
-valid-field-requires c κs = search needs
-
-mul-v : tie.Need-mul-v
-mul-v c = search needs
-
-add-v : tie.Need-add-v
-add-v c = search needs
-
-add-v-2 : tie.Need-add-v-2
-add-v-2 c = search needs
-
 mul-t11 : tie.Need-mul-t11
-mul-t11 c =
-    let a = c .before .before .args in
-    let v : Valid (a .first) (a .last) (a .x) = tested _ _ _ (c .before .valid-field .ensures) (c .if1 .taken) in
-    omega arith
+mul-t11 c = let v = tested _ _ _ (c .before .valid-field .ensures) (c .if1 .taken) in omega arith
 
 add-t9 : tie.Need-add-t9
-add-t9 c =
-    let a = c .before .before .args in
-    let v : Valid (a .first) (a .last) (a .x) = tested _ _ _ (c .before .valid-field .ensures) (c .if1 .taken) in
-    omega arith
+add-t9 c = let v = tested _ _ _ (c .before .valid-field .ensures) (c .if1 .taken) in omega arith
 
 returns : tie.Need-returns
 unfolding nextField
@@ -50,4 +32,4 @@ returns-2 c = simp (sym (c .before .valid-field .ensures), c .if1 .left)
 
 pub next-field-spec : {M : Type 1} → statement M
 next-field-spec =
-    tie.close (tie.spec valid-field-requires mul-v add-v add-v-2 mul-t11 add-t9 returns returns-2)
+    tie.close (tie.spec (λ c κs. search needs) (λ c. search needs) (λ c. search needs) (λ c. search needs) mul-t11 add-t9 returns returns-2)

@@ -1,10 +1,9 @@
--- `calendar::next_twelve` meets its contract. By the code's test, which is the definition's.
+-- `next_twelve` answers `nextTwelve`: by the code's test, which is the definition's.
 -- Assumes nothing.
-use mathlib.Core.Path.{_≡_}
+use mathlib.Core.Path.{_≡_, sym}
 use mathlib.Core.Bool.{Bool, true, _&&_}
 use Prim.Native.Nat.{ℕ, _+_, _<_}
 use lib.Dec.{ltb}
-use mathlib.Core.Path.{sym}
 use native.Mathlib.Omega.{arith}
 use borrow.Author.Tests.{ltb-true}
 use Rattle.base.proofs.Tests.{both-right}
@@ -15,15 +14,6 @@ use Rattle.calendar.proofs.next_twelve.Tie as tie
 -- an hour that the test let through has a next one in the day
 another-hour : (valid : Bool) (h : ℕ) → (valid && ltb h 23) ≡ true → h + 1 < 24
 another-hour valid h t = omega (arith, ltb-true h 23 (both-right valid (ltb h 23) t))
-
-hour-of-twelve-requires : tie.Need-hour-of-twelve-requires
-hour-of-twelve-requires c κs = search needs
-
-valid-field-requires : tie.Need-valid-field-requires
-valid-field-requires c κs = search needs
-
-add-twelve-of-hour : tie.Need-add-twelve-of-hour
-add-twelve-of-hour c = search needs
 
 twelve-of-hour-requires : tie.Need-twelve-of-hour-requires
 twelve-of-hour-requires c κs = another-hour (c .before .valid-field .result) (c .before .before .hour-of-twelve .result) (c .if1 .taken)
@@ -36,11 +26,4 @@ returns-2 c = simp (sym (c .before .valid-field .ensures), sym (c .before .befor
 
 pub next-twelve-spec : {M : Type 1} → statement M
 next-twelve-spec =
-    tie.close
-    (tie.spec
-    hour-of-twelve-requires
-    valid-field-requires
-    add-twelve-of-hour
-    twelve-of-hour-requires
-    returns
-    returns-2)
+    tie.close (tie.spec (λ c κs. search needs) (λ c κs. search needs) (λ c. search needs) twelve-of-hour-requires returns returns-2)

@@ -1,18 +1,9 @@
--- `calendar::on_day` meets its contract. By the carry, from the promises of the date's functions.
+-- `on_day` answers `onDay`: by the carry, from the promises of the date's functions.
 -- Assumes nothing.
 use Rattle.calendar.specs.Time.{onDay}
 use borrow.Author.Needs.{needs}
 use Rattle.calendar.proofs.on_day.Statement.{statement}
 use Rattle.calendar.proofs.on_day.Tie as tie
-
-date-of-requires : tie.Need-date-of-requires
-date-of-requires c κs = search needs
-
-next-date-requires : tie.Need-next-date-requires
-next-date-requires c κs = search needs
-
-with-date-requires : tie.Need-with-date-requires
-with-date-requires c κs = search needs
 
 returns : tie.Need-returns
 unfolding onDay
@@ -30,4 +21,4 @@ returns-2 c = simp (c .if1 .left)
 
 pub on-day-spec : {M : Type 1} → statement M
 on-day-spec =
-    tie.close (tie.spec date-of-requires next-date-requires with-date-requires returns returns-2)
+    tie.close (tie.spec (λ c κs. search needs) (λ c κs. search needs) (λ c κs. search needs) returns returns-2)

@@ -1,4 +1,4 @@
--- `calendar::valid_field` meets its contract. The tests as values are the definition's own.
+-- `valid_field` answers `validField`: its tests as values are the definition's own.
 -- Assumes nothing.
 use Rattle.calendar.specs.Field.{validField}
 use mathlib.Core.Path.{refl}

@@ -5,24 +5,24 @@ use mathlib.Core.Path.{_≡_, refl}
 use native.Mathlib.Omega.{arith}
 use borrow.Author.Needs.{needs}
 use lib.ListN.{length, length-set}
-use Rattle.device.specs.World.{world}
+use Rattle.record.specs.World.{world}
 use Rattle.run.specs.Run.{inputsIn}
 use Rattle.run.proofs.TurnLaws.{Left, inputsFrom, left-all, left-turn, left-none, inputs-none, inputs-end}
 use Rattle.run.proofs.perform_all.Statement.{statement}
 use Rattle.run.proofs.perform_all.Tie as tie
 
 abbrev Inv-loop : tie.InvT-loop
-Inv-loop part codes numbers answers₀ used₀ eeprom₀ id₀ most chip₀ i₀ answers used eeprom id chip i =
+Inv-loop part codes args answers₀ used₀ eeprom₀ id₀ most chip₀ i₀ answers used eeprom id chip i =
     let room = min (length answers₀) (length used₀) in
     (i ≤ most)
     × (length answers ≡ length answers₀)
     × (length used ≡ length used₀)
     × (length eeprom ≡ length eeprom₀)
     × (length id ≡ length id₀)
-    × Left part (inputsIn codes numbers answers₀ used₀) (inputsFrom i codes numbers room) answers₀ used₀ (world chip₀ eeprom₀ id₀) i answers used (world chip eeprom id)
+    × Left part (inputsIn codes args answers₀ used₀) (inputsFrom i codes args room) answers₀ used₀ (world chip₀ eeprom₀ id₀) i answers used (world chip eeprom id)
 
 abbrev μ-loop : tie.MeasureT-loop
-μ-loop part codes numbers answers₀ used₀ eeprom₀ id₀ most chip₀ i₀ answers used eeprom id chip i = most - i
+μ-loop part codes args answers₀ used₀ eeprom₀ id₀ most chip₀ i₀ answers used eeprom id chip i = most - i
 
 loop-holds : tie.Need-loop-holds Inv-loop μ-loop
 loop-holds c = (omega arith, refl, refl, refl, refl, left-all _ _ _ _ _ _ _)

@@ -1,4 +1,4 @@
--- `run::refuses` meets its contract.
+-- `run::refuses`.
 -- Assumes nothing.
 use borrow.Author.Needs.{needs}
 use Rattle.run.proofs.refuses.Statement.{statement}
@@ -8,7 +8,5 @@ pub refuses-spec : {M : Type 1} → statement M
 refuses-spec =
     tie.close
     (tie.spec
-    (λ c κs. search needs)
-    (λ c κs. search needs)
-    (λ c κs. search needs)
+    (λ c κs. search needs) (λ c κs. search needs) (λ c κs. search needs)
     (λ c. simp (c .first-refusal .ensures, c .before .wrong-length .ensures, c .before .before .is-part .ensures)))

@@ -1,159 +1,151 @@
--- `tape::chunk::feed_lines` meets its contract: so far the bytes before a place are fed and their answers are in the output.
+-- `tape::chunk::feed_lines`: so far the bytes before a place are fed and their answers are in the buffer.
 -- Assumes nothing.
 use borrow.Author.Needs.{needs}
 use native.Mathlib.Omega.{arith}
 use mathlib.Core.Path.{_≡_, refl, ap, _∙_}
-use Prim.Native.Nat.{_-_, _≤_}
-use lib.ListN.{length, take, length-take}
-use Rattle.text.specs.Text.{buffer}
-use Rattle.answers.specs.Answer.{Shown, setupOf}
+use mathlib.Core.List.{List}
+use Prim.Native.Nat.{ℕ, _+_, _-_, _^_, _<_, _≤_}
+use lib.ListN.{length, take, length-take, length-drop}
+use Rattle.text.specs.Bytes.{plain}
+use Rattle.text.specs.Buffer.{buffer}
+use Rattle.text.proofs.BytesLaws.{leading-within}
+use Rattle.lines.specs.Print.{answerRoom}
+use Rattle.answers.specs.Answer.{setupIn, shownBy}
 use Rattle.tape.specs.declared.Feed.{Feed}
-use Rattle.tape.specs.Tape.{keptLimit, state, stateOf, takenBy}
-use Rattle.tape.proofs.TapeLaws.{Sofar, sofar-start, sofar-done, end-within, turn-stop, turn-line, stops, goes}
+use Rattle.tape.specs.Tape.{headLimit, Headed, state, takenBy}
+use Rattle.tape.proofs.TapeLaws.{Sofar, sofar-start, sofar-done, turn-stop, turn-line, stops, goes}
 use Rattle.tape.proofs.chunk.feed_lines.Statement.{statement}
 use Rattle.tape.proofs.chunk.feed_lines.Tie as tie
 
+-- what is lent stays as long as it was; the head and the place lie in their bounds
+record Bounds (l₀ e₀ i₀ o₀ chunk l e i o : List ℕ) (begun from : ℕ) : Type 0 where
+  line : length l ≡ length l₀
+  eeprom : length e ≡ length e₀
+  id : length i ≡ length i₀
+  into : length o ≡ length o₀
+  head : begun ≤ headLimit
+  place : from ≤ length chunk
+
 abbrev Inv-loop : tie.InvT-loop
-Inv-loop chunk line₀ eeprom₀ id₀ out₀ at p₀ begun₀ from₀ line eeprom id out p begun from =
-    (length line ≡ length line₀) × (length eeprom ≡ length eeprom₀) × (length id ≡ length id₀) × (length out ≡ length out₀) × (begun ≤ keptLimit)
-    × Sofar (state (setupOf (p₀ .part) (p₀ .device) eeprom₀ id₀) (take begun₀ line₀)) chunk (buffer out₀ (p₀ .at)) from
-    (state (setupOf (p .part) (p .device) eeprom id) (take begun line)) (buffer out (p .at))
+Inv-loop chunk line₀ eeprom₀ id₀ into₀ at p₀ begun₀ from₀ line eeprom id into p begun from =
+    Bounds line₀ eeprom₀ id₀ into₀ chunk line eeprom id into begun from
+    × Sofar (state (setupIn p₀ eeprom₀ id₀) (take begun₀ line₀)) chunk (buffer into₀ (p₀ .at)) from
+    (state (setupIn p eeprom id) (take begun line)) (buffer into (p .at))
 
 abbrev μ-loop : tie.MeasureT-loop
-μ-loop chunk line₀ eeprom₀ id₀ out₀ at p₀ begun₀ from₀ line eeprom id out p begun from = length chunk - from
+μ-loop chunk line₀ eeprom₀ id₀ into₀ at p₀ begun₀ from₀ line eeprom id into p begun from = length chunk - from
 
 loop-holds : tie.Need-loop-holds Inv-loop μ-loop
 loop-holds c =
-    let b = c .before .before .before .before .before .before in
-    (refl, refl, refl, refl, b .pre .0, sofar-start _ _ _)
+    let b = c .before .before .before .before .before .before in (
+      record { line = refl; eeprom = refl; id = refl; into = refl; head = b .pre .0 .within; place = omega arith },
+      sofar-start _ _ _,
+    )
 
-sub-keep : tie.Need-sub-keep Inv-loop μ-loop
-sub-keep c =
-    end-within _ _ _ (c .before .before .before .before .loop .inv .5 .within) (c .before .before .line-end .ensures) .0
+headed : (c : tie.At-loop Inv-loop μ-loop) → Headed (c .loop .line) (c .loop .begun)
+headed c = record { size = c .loop .inv .0 .line ∙ c .before .before .before .before .before .before .before .pre .0 .size; within = c .loop .inv .0 .head }
 
-part-keep-start : tie.Need-part-keep-start Inv-loop μ-loop
-part-keep-start c =
-    let e = end-within _ _ _ (c .before .before .before .before .loop .inv .5 .within) (c .before .before .line-end .ensures) in
-    search needs
+-- the piece lies in what is left, and that in the chunk
+record Piece (chunk left : List ℕ) (from n : ℕ) : Type 0 where
+  size : n ≤ length left
+  rest : from + length left ≡ length chunk
 
-part-keep-end : tie.Need-part-keep-end Inv-loop μ-loop
-part-keep-end c =
-    let e = end-within _ _ _ (c .before .before .before .before .loop .inv .5 .within) (c .before .before .line-end .ensures) in
-    search needs
+piece-in :
+    (c : tie.After-leading-of Inv-loop μ-loop)
+    → let l = c .before .before .before in
+    Piece (l .before .before .before .before .before .before .before .args .chunk .now) (c .before .rest .result .now) (l .loop .from)
+    (c .leading-of .result)
+piece-in c =
+    let l = c .before .before .before in
+    let left = c .before .rest in
+    let d = ap length (left .ensures) ∙ length-drop (l .loop .from) (l .before .before .before .before .before .before .before .args .chunk .now) in
+    record {
+      size = omega (arith, c .leading-of .ensures, leading-within plain (left .result .now));
+      rest = omega (arith, l .loop .inv .0, d);
+    }
 
-keep-requires : tie.Need-keep-requires Inv-loop μ-loop
-keep-requires c κs =
-    let l = c .before .before .before .before .before .before .loop in
-    (l .inv .0 ∙ c .before .before .before .before .before .before .before .before .before .before .before .before .before .pre .1, l .inv .4)
+-- a turn goes on where the piece ends before what is left does, and the answer has room; the place after the line's end lies in the chunk
+record Next (from n left most room : ℕ) : Type 0 where
+  less : n < left
+  free : answerRoom ≤ room
+  inside : from + n < most
+  fits : most < 2 ^ 64
+
+next-in :
+    (c : tie.Else1 Inv-loop μ-loop)
+    → let l = c .before .before .before .before .before .before in
+    Next (l .loop .from) (c .before .before .before .leading-of .result) (length (c .before .before .before .before .rest .result .now))
+    (length (l .before .before .before .before .before .before .before .args .chunk .now))
+    (length (l .loop .into) - l .loop .p .at)
+next-in c =
+    let d = piece-in (c .before .before .before) in
+    let g = goes _ _ _ _ (d .size) (c .before .room .ensures) (c .if1 .left) in
+    record { less = g .0; free = g .1; inside = omega (arith, g .0, d); fits = c .before .before .before .before .before .before .before .before .before .before .before .before .before .good .0 .0 }
+
+short : (l : List ℕ) (n : ℕ) → n ≤ headLimit → length (take n l) ≤ headLimit
+short l n h = simp length-take (omega arith)
 
 returns : tie.Need-returns Inv-loop μ-loop
 returns c =
-    let t = c .before .before .before .before .before .before in
-    let l = t .before .before .before .before .loop in
-    let a = t .before .before .before .before .before .before .before .before .before .before .before .args in
-    let e = t .before .before .line-end in
-    let k = c .before .before .before .keep in
-    let w : length (take (l .begun) (l .line)) ≤ keptLimit = simp length-take (omega (arith, l .inv .4)) in
-    let h = stops (e .result) (length (a .chunk .now)) (t .before .room .result) (length (l .out) - l .p .at) (t .before .room .ensures) (t .if1 .taken) in
-    ap (λ (f : Feed). takenBy f (k .last .1 .0) (l .eeprom) (l .id) (l .out)) (c .feed-of .ensures)
-    ∙ turn-stop (stateOf (a .tape) (a .line .now) (a .eeprom .now) (a .id .now)) (a .chunk .now) (buffer (a .out .now) (a .at)) (l .from)
-    (setupOf (l .p .part) (l .p .device) (l .eeprom) (l .id)) (take (l .begun) (l .line)) (buffer (l .out) (l .p .at)) w (l .inv .5) (e .result) (e .ensures) h
-    (take (k .result) (k .last .1 .0)) (k .ensures .0)
-
-sub-end-line : tie.Need-sub-end-line Inv-loop μ-loop
-sub-end-line c =
-    end-within _ _ _ (c .before .before .before .before .loop .inv .5 .within) (c .before .before .line-end .ensures) .0
-
-part-end-line-start : tie.Need-part-end-line-start Inv-loop μ-loop
-part-end-line-start c =
-    let e = end-within _ _ _ (c .before .before .before .before .loop .inv .5 .within) (c .before .before .line-end .ensures) in
-    search needs
-
-part-end-line-end : tie.Need-part-end-line-end Inv-loop μ-loop
-part-end-line-end c =
-    let e = end-within _ _ _ (c .before .before .before .before .loop .inv .5 .within) (c .before .before .line-end .ensures) in
-    search needs
+    let r = c .before .before .before .before .before .before in
+    let l = r .before .before .before .before .before .loop in
+    let k = c .before .before .before .add-to-head in
+    ap (λ (f : Feed). takenBy f (k .last .1 .0) (l .eeprom) (l .id) (l .into)) (c .feed-of .ensures)
+    ∙ turn-stop _ _ _ (l .from) _ _ _ (short (l .line) (l .begun) (l .inv .0 .head)) (l .inv .1)
+    _ (r .before .before .before .rest .ensures) _ (r .before .before .leading-of .ensures) _ (r .before .first .ensures)
+    (stops _ _ _ _ (r .room .ensures) (c .before .before .before .before .before .if1 .taken)) (take (k .result) (k .last .1 .0)) (k .ensures .0)
 
 end-line-requires : tie.Need-end-line-requires Inv-loop μ-loop
 end-line-requires c κs =
-    let t = c .before .before .before .before .before in
-    let l = t .before .before .before .before .loop in
-    let b = t .before .before .before .before .before .before .before .before .before .before .before in
-    let g = goes _ _ _ _ _ (l .inv .5 .within) (t .before .before .line-end .ensures) (t .before .room .ensures) (t .if1 .left) in
-    ((l .inv .0 ∙ b .pre .1, l .inv .4), (l .inv .1 ∙ b .pre .2, l .inv .2 ∙ b .pre .3, omega (arith, g .2)))
-
-add-from : tie.Need-add-from Inv-loop μ-loop
-add-from c =
-    let t = c .before .before .before .before .before .before .before .before .before .before .before .before .before .before in
-    let l = t .before .before .before .before .loop in
-    let g = goes _ _ _ _ _ (l .inv .5 .within) (t .before .before .line-end .ensures) (t .before .room .ensures) (t .if1 .left) in
-    omega (arith, g .1)
-
-loop-less : tie.Need-loop-less Inv-loop μ-loop
-loop-less c =
-    let t = c .before .before .before .before .before .before .before .before .before .before .before .before .before .before in
-    let l = t .before .before .before .before .loop in
-    let g = goes _ _ _ _ _ (l .inv .5 .within) (t .before .before .line-end .ensures) (t .before .room .ensures) (t .if1 .left) in
-    omega (arith, g .0, g .1)
+    let t = c .before .before .before .before in
+    let l = t .before .before .before .before .before .before in
+    let i = l .loop .inv .0 in
+    let b = l .before .before .before .before .before .before .before .pre .1 in
+    (headed l, (record { eeprom = i .eeprom ∙ b .eeprom; id = i .id ∙ b .id }, omega (arith, next-in t)))
 
 loop-again : tie.Need-loop-again Inv-loop μ-loop
 loop-again c =
-    let t = c .before .before .before .before .before .before .before .before .before .before .before .before .before .before in
-    let l = t .before .before .before .before .loop in
-    let b = t .before .before .before .before .before .before .before .before .before .before .before in
-    let g = goes _ _ _ _ _ (l .inv .5 .within) (t .before .before .line-end .ensures) (t .before .room .ensures) (t .if1 .left) in
-    let a = b .args in
-    let e = t .before .before .line-end in
+    let t = c .before .before .before .before .before .before .before .before .before .before .before .before .before in
+    let l = t .before .before .before .before .before .before .loop in
+    let i = l .inv .0 in
+    let n = next-in t in
     let f = c .before .before .before .before .before .before .before .before .end-line in
-    let w : length (take (l .begun) (l .line)) ≤ keptLimit = simp length-take (omega (arith, l .inv .4)) in
-    let x : Shown = record { after = setupOf (f .result .part) (f .result .device) (f .last .1 .1 .1 .1 .0) (f .last .1 .1 .1 .1 .1 .0); out = buffer (f .last .1 .1 .1 .1 .1 .1 .0) (f .result .at) } in (
-      f .kept .1 .1 .0 ∙ l .inv .0,
-      f .kept .1 .1 .1 .1 .0 ∙ l .inv .1,
-      f .kept .1 .1 .1 .1 .1 .0 ∙ l .inv .2,
-      f .kept .1 .1 .1 .1 .1 .1 .0 ∙ l .inv .3,
-      omega arith,
-      turn-line (stateOf (a .tape) (a .line .now) (a .eeprom .now) (a .id .now)) (a .chunk .now) (buffer (a .out .now) (a .at)) (l .from)
-          (setupOf (l .p .part) (l .p .device) (l .eeprom) (l .id)) (take (l .begun) (l .line)) (buffer (l .out) (l .p .at)) w (l .inv .5) (e .result) (e .ensures)
-          (g .1) (g .2) x (f .ensures),
+    let x = shownBy (f .result) (f .last .1 .1 .1 .1 .0) (f .last .1 .1 .1 .1 .1 .0) (f .last .1 .1 .1 .1 .1 .1 .0) in (
+      record {
+        line = f .kept .1 .1 .0 ∙ i .line;
+        eeprom = f .kept .1 .1 .1 .1 .0 ∙ i .eeprom;
+        id = f .kept .1 .1 .1 .1 .1 .0 ∙ i .id;
+        into = f .kept .1 .1 .1 .1 .1 .1 .0 ∙ i .into;
+        head = omega arith;
+        place = omega arith;
+      },
+      turn-line _ _ _ (l .from) _ _ _ (short (l .line) (l .begun) (i .head)) (l .inv .1)
+          _ (t .before .before .before .before .rest .ensures) _ (t .before .before .before .leading-of .ensures) _
+          (t .before .before .first .ensures) (n .less) (n .free) x (f .ensures),
     )
 
 returns-2 : tie.Need-returns-2 Inv-loop μ-loop
 returns-2 c =
     let l = c .before .before .loop in
-    let a = c .before .before .before .before .before .before .before .before .before .args in
-    ap (λ (f : Feed). takenBy f (l .line) (l .eeprom) (l .id) (l .out)) (c .feed-of2 .ensures)
-    ∙ sofar-done (stateOf (a .tape) (a .line .now) (a .eeprom .now) (a .id .now)) (a .chunk .now) (buffer (a .out .now) (a .at)) (l .from)
-    (state (setupOf (l .p .part) (l .p .device) (l .eeprom) (l .id)) (take (l .begun) (l .line))) (buffer (l .out) (l .p .at)) (c .before .loop-test .left) (l .inv .5)
+    ap (λ (f : Feed). takenBy f (l .line) (l .eeprom) (l .id) (l .into)) (c .feed-of2 .ensures)
+    ∙ sofar-done _ _ _ (l .from) _ _ (c .before .loop-test .left) (l .inv .1)
 
 pub feed-lines-spec : {M : Type 1} → statement M
 feed-lines-spec =
     tie.close
-    (tie.spec
-    Inv-loop
-    μ-loop
-    loop-holds
-    (λ c κs. omega arith)
+    (tie.spec Inv-loop μ-loop loop-holds (λ c κs. search needs) (λ c κs. search needs) (λ c κs. search needs) (λ c κs. search needs)
+    (λ c κs. headed (c .before .before .before .before .before .before .before))
+    (λ c. omega (arith, piece-in (c .before .before .before .before .before .before .before)))
     (λ c κs. search needs)
-    sub-keep
-    part-keep-start
-    part-keep-end
-    keep-requires
-    (λ c κs. search needs)
-    (λ c. c .before .before .before .keep .kept .1 .0 ∙ c .before .before .before .before .before .before .before .before .before .before .loop .inv .0)
-    (λ c. c .before .before .before .before .before .before .before .before .before .before .loop .inv .1)
-    (λ c. c .before .before .before .before .before .before .before .before .before .before .loop .inv .2)
-    (λ c. c .before .before .before .before .before .before .before .before .before .before .loop .inv .3)
-    returns
-    sub-end-line
-    part-end-line-start
-    part-end-line-end
-    end-line-requires
-    add-from
-    loop-less
-    loop-again
-    (λ c κs. search needs)
-    (λ c. c .before .before .loop .inv .0)
-    (λ c. c .before .before .loop .inv .1)
-    (λ c. c .before .before .loop .inv .2)
-    (λ c. c .before .before .loop .inv .3)
-    returns-2)
+    (λ c. let l = c .before .before .before .before .before .before .before .before .before .before .before .loop in
+    c .before .before .before .add-to-head .kept .1 .0 ∙ l .inv .0 .line)
+    (λ c. c .before .before .before .before .before .before .before .before .before .before .before .loop .inv .0 .eeprom)
+    (λ c. c .before .before .before .before .before .before .before .before .before .before .before .loop .inv .0 .id)
+    (λ c. c .before .before .before .before .before .before .before .before .before .before .before .loop .inv .0 .into)
+    returns end-line-requires
+    (λ c. omega (arith, next-in (c .before .before .before .before .before .before .before .before .before .before .before .before .before)))
+    (λ c. omega (arith, next-in (c .before .before .before .before .before .before .before .before .before .before .before .before .before)))
+    (λ c. omega (arith, next-in (c .before .before .before .before .before .before .before .before .before .before .before .before .before)))
+    loop-again (λ c κs. search needs)
+    (λ c. c .before .before .loop .inv .0 .line) (λ c. c .before .before .loop .inv .0 .eeprom) (λ c. c .before .before .loop .inv .0 .id)
+    (λ c. c .before .before .loop .inv .0 .into) returns-2)

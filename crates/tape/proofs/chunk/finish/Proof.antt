@@ -1,17 +1,17 @@
--- `tape::chunk::finish` meets its contract: buffers that do not fit, an end, and no room for its answer.
+-- `tape::chunk::finish`: buffers that do not fit, an end, and no room for its answer.
 -- Assumes nothing.
 use native.Mathlib.Omega.{arith}
-use mathlib.Core.Path.{sym, ap, _∙_}
-use mathlib.Core.Bool.{Bool, _&&_}
+use mathlib.Core.Path.{_≡_, sym, ap, _∙_}
+use mathlib.Core.Bool.{Bool, true, _&&_}
 use Prim.Native.Nat.{_-_}
 use lib.Dec.{leb}
 use lib.ListN.{length}
 use borrow.Author.Tests.{leb-true, not-true, not-false}
-use Rattle.base.proofs.Tests.{yes, no, both-true}
-use Rattle.text.specs.Print.{answerRoom}
-use Rattle.tape.specs.Tape.{finishInto}
-use Rattle.tape.proofs.TapeLaws.{fit-facts}
 use borrow.Author.Needs.{needs}
+use Rattle.base.proofs.Tests.{yes, no, both-true}
+use Rattle.lines.specs.Print.{answerRoom}
+use Rattle.tape.specs.Tape.{buffersFit, finishInto}
+use Rattle.tape.proofs.TapeLaws.{fit-facts}
 use Rattle.tape.proofs.chunk.finish.Statement.{statement}
 use Rattle.tape.proofs.chunk.finish.Tie as tie
 
@@ -20,41 +20,43 @@ unfolding finishInto
 returns c =
     let a = c .before .before .before .before .before .before .args in
     let f = sym (c .before .fit .ensures) ∙ not-true (c .before .fit .result) (c .if1 .taken) in
-    no _ _ (ap (λ (x : Bool). x && leb answerRoom (length (a .out .now) - a .at)) f)
+    no _ _ (ap (λ (x : Bool). x && leb answerRoom (length (a .into .now) - a .at)) f)
+
+-- the buffers fit where the first test failed
+fits :
+    (c : tie.Else1)
+    → let a = c .before .before .before .before .before .before .args in
+    buffersFit (a .tape .begun) (length (a .line .now)) (length (a .eeprom .now)) (length (a .id .now)) ≡ true
+fits c = sym (c .before .fit .ensures) ∙ not-false (c .before .fit .result) (c .if1 .left)
 
 finish-line-requires : tie.Need-finish-line-requires
 finish-line-requires c κs =
-    let a = c .before .before .before .before .before .before .before .before .before .before .before .before .args in
-    let f = sym (c .before .before .before .before .before .before .before .fit .ensures) ∙ not-false (c .before .before .before .before .before .before .before .fit .result) (c .before .before .before .before .before .before .if1 .left) in
-    let g = fit-facts (a .tape .begun) (length (a .line .now)) (length (a .eeprom .now)) (length (a .id .now)) f in
-    let r = leb-true answerRoom (c .before .before .before .before .before .room .result) (c .before .before .before .before .if2 .taken) in
-    (g .0, g .1, g .2, g .3, omega (arith, r, c .before .before .before .before .before .room .ensures))
+    let r = c .before .before .before .before .before .room in
+    let t = c .before .before .before .before .before .before in
+    let a = t .before .before .before .before .before .before .args in
+    let g = fit-facts (a .tape .begun) (a .line .now) (a .eeprom .now) (a .id .now) (fits t) in
+    (g .0, (g .1, omega (arith, leb-true answerRoom (r .result) (c .before .before .before .before .if2 .taken), r .ensures)))
 
 returns-2 : tie.Need-returns-2
 unfolding finishInto
 returns-2 c =
-    let a = c .before .before .before .before .before .before .before .before .before .before .before .before .before .before .before .before .before .before .before .before .before .args in
-    let f = sym (c .before .before .before .before .before .before .before .before .before .before .before .before .before .before .before .before .fit .ensures) ∙ not-false (c .before .before .before .before .before .before .before .before .before .before .before .before .before .before .before .before .fit .result) (c .before .before .before .before .before .before .before .before .before .before .before .before .before .before .before .if1 .left) in
-    c .before .before .before .before .before .before .before .before .finish-line .ensures ∙ yes _ _ (both-true f (ap (leb answerRoom) (sym (c .before .before .before .before .before .before .before .before .before .before .before .before .before .before .room .ensures)) ∙ c .before .before .before .before .before .before .before .before .before .before .before .before .before .if2 .taken))
+    let t = c .before .before .before .before .before .before .before .before .before .before .before .before .before in
+    let r = t .before in
+    c .before .before .before .before .before .before .before .before .finish-line .ensures
+    ∙ yes _ _ (both-true (fits (r .before)) (ap (leb answerRoom) (sym (r .room .ensures)) ∙ t .if2 .taken))
 
 returns-3 : tie.Need-returns-3
 unfolding finishInto
 returns-3 c =
-    let a = c .before .before .before .before .before .before .before .before .args in
-    let f = sym (c .before .before .before .fit .ensures) ∙ not-false (c .before .before .before .fit .result) (c .before .before .if1 .left) in
-    no _ _ (ap (λ (x : Bool). x && leb answerRoom (length (a .out .now) - a .at)) f ∙ ap (leb answerRoom) (sym (c .before .room .ensures)) ∙ c .if2 .left)
+    let r = c .before in
+    let a = r .before .before .before .before .before .before .before .args in
+    no _ _
+    (ap (λ (x : Bool). x && leb answerRoom (length (a .into .now) - a .at)) (fits (r .before))
+    ∙ ap (leb answerRoom) (sym (r .room .ensures))
+    ∙ c .if2 .left)
 
 pub finish-spec : {M : Type 1} → statement M
 finish-spec =
     tie.close
-    (tie.spec
-    (λ c κs. search needs)
-    returns
-    (λ c κs. search needs)
-    finish-line-requires
-    (λ c. search needs)
-    (λ c. search needs)
-    (λ c. search needs)
-    (λ c. search needs)
-    returns-2
-    returns-3)
+    (tie.spec (λ c κs. search needs) returns (λ c κs. search needs) finish-line-requires (λ c. search needs) (λ c. search needs) (λ c. search needs)
+    (λ c. search needs) returns-2 returns-3)

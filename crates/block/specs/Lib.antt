@@ -1,4 +1,0 @@
-pub mod Setters
-pub mod Registers
-pub mod Lines
-pub mod Alarm

@@ -1,7 +1,0 @@
-pub mod ClockLaws
-pub mod WatchdogLaws
-pub mod RegisterLaws
-pub mod KeepLaws
-pub mod TickLaws
-pub mod WaitLaws
-pub mod TickRangeLaws

@@ -1,8 +1,0 @@
--- `device::tick::is_alive` meets its contract.
--- Assumes nothing.
-use borrow.Author.Needs.{needs}
-use Rattle.device.proofs.tick.is_alive.Statement.{statement}
-use Rattle.device.proofs.tick.is_alive.Tie as tie
-
-pub is-alive-spec : {M : Type 1} → statement M
-is-alive-spec = tie.close (tie.spec (λ c κs. search needs) (λ c. simp (c .before .battery-enabled .ensures)))

@@ -1,5 +1,0 @@
-// The chip's ticks as functions of its record. The calendar is known by its promise alone.
-pub mod oscillator; // oscillator.rt: the start-up count
-pub mod watchdog; // watchdog.rt: count, delay, pulse
-pub mod clock; // clock.rt: divider, calendar and alarms
-pub mod tick; // tick.rt: one tick of the record

@@ -1,0 +1,11 @@
+-- All closed witnesses as one statement.
+-- Assumes nothing.
+use Rattle.edges.specs.Ticks.{WaitsShown, waits-shown}
+use Rattle.edges.specs.Acts.{ActsShown, acts-shown}
+
+pub Witnesses : Type 0
+Witnesses = WaitsShown × ActsShown
+
+pub witnesses : Witnesses
+unfolding Witnesses
+witnesses = (waits-shown, acts-shown)

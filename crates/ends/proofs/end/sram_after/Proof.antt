@@ -1,0 +1,12 @@
+-- `ends::end::sram_after`.
+-- Assumes nothing.
+use borrow.Author.Needs.{needs}
+use Rattle.ends.proofs.end.sram_after.Statement.{statement}
+use Rattle.ends.proofs.end.sram_after.Tie as tie
+
+pub sram-after-spec : {M : Type 1} → statement M
+sram-after-spec =
+    tie.close
+    (tie.spec
+    (λ c κs. search needs) (λ c. simp (simp (c .before .cleared-by .ensures) at (c .if1 .taken)))
+    (λ c. simp (simp (c .before .before .cleared-by .ensures) at (c .before .if1 .left))))

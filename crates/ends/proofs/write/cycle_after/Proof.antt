@@ -1,0 +1,15 @@
+-- `ends::write::cycle_after`.
+-- Assumes nothing.
+use Rattle.ends.specs.Write.{cycleAfter}
+use borrow.Author.Needs.{needs}
+use Rattle.ends.proofs.write.cycle_after.Statement.{statement}
+use Rattle.ends.proofs.write.cycle_after.Tie as tie
+
+pub cycle-after-spec : {M : Type 1} → statement M
+unfolding cycleAfter
+cycle-after-spec =
+    tie.close
+    (tie.spec
+    (λ c κs. search needs) (λ c κs. search needs)
+    (λ c. simp (c .target-at .ensures, simp (c .before .before .is-carried .ensures) at (c .before .if1 .taken)))
+    (λ c. simp (simp (c .before .is-carried .ensures) at (c .if1 .left))))

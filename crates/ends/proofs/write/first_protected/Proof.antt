@@ -1,0 +1,12 @@
+-- `ends::write::first_protected`.
+-- Assumes nothing.
+use borrow.Author.Needs.{needs}
+use Rattle.ends.proofs.write.first_protected.Statement.{statement}
+use Rattle.ends.proofs.write.first_protected.Tie as tie
+
+pub first-protected-spec : {M : Type 1} → statement M
+first-protected-spec =
+    tie.close
+    (tie.spec
+    (λ c. search needs) (λ c. search needs) (λ c. search needs) (λ c. search needs) (λ c. search needs) (λ c. search needs) (λ c. search needs)
+    (λ c. simp (c .enum-told .given .1)) (λ c. simp (c .enum-told2 .given .1)) (λ c. simp (c .enum-told3 .given .1)) (λ c. search needs))

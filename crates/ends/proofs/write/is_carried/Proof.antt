@@ -1,0 +1,14 @@
+-- `ends::write::is_carried`.
+-- Assumes nothing.
+use Rattle.ends.specs.Write.{carried}
+use borrow.Author.Needs.{needs}
+use Rattle.ends.proofs.write.is_carried.Statement.{statement}
+use Rattle.ends.proofs.write.is_carried.Tie as tie
+
+pub is-carried-spec : {M : Type 1} → statement M
+unfolding carried
+is-carried-spec =
+    tie.close
+    (tie.spec
+    (λ c κs. search needs) (λ c κs. search needs) (λ c κs. search needs)
+    (λ c. simp (c .before .is-allowed .ensures, c .before .before .is-over .ensures, c .before .before .before .data-came .ensures)))

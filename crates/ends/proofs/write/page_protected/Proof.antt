@@ -1,0 +1,11 @@
+-- `ends::write::page_protected`.
+-- Assumes nothing.
+use borrow.Author.Needs.{needs}
+use Rattle.ends.proofs.write.page_protected.Statement.{statement}
+use Rattle.ends.proofs.write.page_protected.Tie as tie
+
+pub page-protected-spec : {M : Type 1} → statement M
+page-protected-spec =
+    tie.close
+    (tie.spec
+    (λ c κs. search needs) (λ c κs. search needs) (λ c. search needs) (λ c. simp (c .first-protected .ensures, c .before .page .ensures)))

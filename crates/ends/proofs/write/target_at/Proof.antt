@@ -1,0 +1,14 @@
+-- `ends::write::target_at`.
+-- Assumes nothing.
+use borrow.Author.Needs.{needs}
+use Rattle.ends.proofs.write.target_at.Statement.{statement}
+use Rattle.ends.proofs.write.target_at.Tie as tie
+
+pub target-at-spec : {M : Type 1} → statement M
+target-at-spec =
+    tie.close
+    (tie.spec
+    (λ c. search needs) (λ c. search needs) (λ c. search needs) (λ c. search needs) (λ c. search needs) (λ c. search needs) (λ c κs. search needs)
+    (λ c. search needs) (λ c κs. search needs) (λ c. search needs) (λ c. search needs) (λ c. search needs) (λ c. search needs) (λ c. search needs)
+    (λ c. search needs) (λ c. simp (c .writing-target .ensures, c .before .before .stage .given .1))
+    (λ c. simp (c .second-target .ensures, c .before .before .stage2 .given .1)) (λ c. search needs))

@@ -1,0 +1,12 @@
+-- `ends::write::writing_target`.
+-- Assumes nothing.
+use borrow.Author.Needs.{needs}
+use Rattle.ends.proofs.write.writing_target.Statement.{statement}
+use Rattle.ends.proofs.write.writing_target.Tie as tie
+
+pub writing-target-spec : {M : Type 1} → statement M
+writing-target-spec =
+    tie.close
+    (tie.spec
+    (λ c. search needs) (λ c. search needs) (λ c. search needs) (λ c. simp (c .before .place .given .1)) (λ c. search needs)
+    (λ c. simp (c .before .place2 .given .1)))

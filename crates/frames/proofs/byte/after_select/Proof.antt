@@ -1,0 +1,10 @@
+-- `frames::byte::after_select`.
+-- Assumes nothing.
+use mathlib.Core.Path.{refl}
+use Rattle.frames.specs.Frame.{afterSelect}
+use Rattle.frames.proofs.byte.after_select.Statement.{statement}
+use Rattle.frames.proofs.byte.after_select.Tie as tie
+
+pub after-select-spec : {M : Type 1} → statement M
+unfolding afterSelect
+after-select-spec = tie.close (tie.spec (λ c. refl))

@@ -1,0 +1,14 @@
+-- `frames::byte::load_after`.
+-- Assumes nothing.
+use borrow.Author.Needs.{needs}
+use Rattle.frames.proofs.byte.load_after.Statement.{statement}
+use Rattle.frames.proofs.byte.load_after.Tie as tie
+
+pub load-after-spec : {M : Type 1} → statement M
+load-after-spec =
+    tie.close
+    (tie.spec
+    (λ c. search needs) (λ c. search needs) (λ c. search needs) (λ c. search needs) (λ c κs. search needs) (λ c. search needs) (λ c. search needs)
+    (λ c κs. search needs) (λ c. search needs) (λ c. search needs) (λ c. search needs) (λ c. search needs) (λ c. search needs)
+    (λ c. simp (c .addressed-load .ensures, c .before .before .stage .given .1)) (λ c. search needs)
+    (λ c. simp (c .writing-load .ensures, c .before .before .stage2 .given .1)) (λ c. search needs) (λ c. search needs))

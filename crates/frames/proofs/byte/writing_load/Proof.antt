@@ -1,0 +1,13 @@
+-- `frames::byte::writing_load`.
+-- Assumes nothing.
+use borrow.Author.Needs.{needs}
+use Rattle.frames.proofs.byte.writing_load.Statement.{statement}
+use Rattle.frames.proofs.byte.writing_load.Tie as tie
+
+pub writing-load-spec : {M : Type 1} → statement M
+writing-load-spec =
+    tie.close
+    (tie.spec
+    (λ c. search needs) (λ c κs. search needs) (λ c. search needs) (λ c. search needs) (λ c κs. search needs)
+    (λ c. simp (c .loaded-with .ensures, c .before .enum-told .given .1)) (λ c. search needs)
+    (λ c. simp (c .loaded-with2 .ensures, c .before .enum-told3 .given .1)))

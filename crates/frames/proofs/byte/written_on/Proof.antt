@@ -1,0 +1,12 @@
+-- `frames::byte::written_on`.
+-- Assumes nothing.
+use borrow.Author.Needs.{needs}
+use Rattle.frames.proofs.byte.written_on.Statement.{statement}
+use Rattle.frames.proofs.byte.written_on.Tie as tie
+
+pub written-on-spec : {M : Type 1} → statement M
+written-on-spec =
+    tie.close
+    (tie.spec
+    (λ c. search needs) (λ c. search needs) (λ c κs. search needs) (λ c. search needs) (λ c. simp (c .before .place .given .1))
+    (λ c. simp (c .next .ensures, c .before .before .place2 .given .1)) (λ c. simp (c .before .place3 .given .1)))

@@ -1,0 +1,12 @@
+-- `frames::byte::written_place`.
+-- Assumes nothing.
+use borrow.Author.Needs.{needs}
+use Rattle.frames.proofs.byte.written_place.Statement.{statement}
+use Rattle.frames.proofs.byte.written_place.Tie as tie
+
+pub written-place-spec : {M : Type 1} → statement M
+written-place-spec =
+    tie.close
+    (tie.spec
+    (λ c. search needs) (λ c. search needs) (λ c κs. search needs) (λ c. search needs) (λ c. simp (c .enum-told .given .1))
+    (λ c. simp (c .write-clock .ensures, c .before .before .place .given .1)) (λ c. simp (c .enum-told2 .given .1)))

@@ -1,0 +1,12 @@
+-- `frames::reply::instruction_reply`.
+-- Assumes nothing.
+use borrow.Author.Needs.{needs}
+use Rattle.frames.proofs.reply.instruction_reply.Statement.{statement}
+use Rattle.frames.proofs.reply.instruction_reply.Tie as tie
+
+pub instruction-reply-spec : {M : Type 1} → statement M
+instruction-reply-spec =
+    tie.close
+    (tie.spec
+    (λ c κs. search needs) (λ c κs. search needs) (λ c. simp (c .status .ensures, simp (c .before .before .is .ensures) at (c .before .if1 .taken)))
+    (λ c. simp (simp (c .before .is .ensures) at (c .if1 .left))))

@@ -1,0 +1,19 @@
+-- `frames::reply::status`: a sum of four bits, so that none of its steps wraps (`status-fits`).
+-- Assumes nothing.
+use native.Mathlib.Omega.{arith}
+use Rattle.frames.specs.Frame.{statusByte}
+use Rattle.frames.proofs.FrameLaws.{status-fits}
+use borrow.Author.Needs.{needs}
+use Rattle.frames.proofs.reply.status.Statement.{statement}
+use Rattle.frames.proofs.reply.status.Tie as tie
+
+pub status-spec : {M : Type 1} → statement M
+unfolding statusByte
+status-spec =
+    tie.close
+    (tie.spec (λ c κs. search needs) (λ c κs. search needs) (λ c κs. search needs) (λ c κs. search needs)
+    (λ c. let p = c .before .before .before in let g = p .before .before .args .d .guard in omega (arith, status-fits (p .in-progress .result) (g .wel) (g .protection)))
+    (λ c. let p = c .before .before .before in let g = p .before .before .args .d .guard in omega (arith, status-fits (p .in-progress .result) (g .wel) (g .protection)))
+    (λ c. let p = c .before .before .before in let g = p .before .before .args .d .guard in omega (arith, status-fits (p .in-progress .result) (g .wel) (g .protection)))
+    (λ c. let p = c .before .before .before in let g = p .before .before .args .d .guard in omega (arith, status-fits (p .in-progress .result) (g .wel) (g .protection)))
+    (λ c. simp (c .protection-number .ensures, c .before .one-if2 .ensures, c .before .before .one-if .ensures, c .before .before .before .in-progress .ensures)))

@@ -1,0 +1,11 @@
+-- `lines::line::asked_for`: by the name.
+-- Assumes nothing.
+use borrow.Author.Needs.{needs}
+use Rattle.lines.proofs.line.asked_for.Statement.{statement}
+use Rattle.lines.proofs.line.asked_for.Tie as tie
+
+pub asked-for-spec : {M : Type 1} → statement M
+asked-for-spec =
+    tie.close
+    (tie.spec (λ c. search needs) (λ c. search needs) (λ c. search needs) (λ c. simp (c .enum-told .given .1)) (λ c. simp (c .before .name .given .1))
+    (λ c. search needs))

@@ -1,0 +1,10 @@
+-- `lines::line::bad_digits`: the two tests.
+-- Assumes nothing.
+use borrow.Author.Needs.{needs}
+use Rattle.lines.proofs.line.bad_digits.Statement.{statement}
+use Rattle.lines.proofs.line.bad_digits.Tie as tie
+
+pub bad-digits-spec : {M : Type 1} → statement M
+bad-digits-spec =
+    tie.close
+    (tie.spec (λ c κs. search needs) (λ c. simp (c .needless-zero .ensures)))

@@ -1,0 +1,23 @@
+-- `lines::line::bad_line`: the four tests.
+-- Assumes nothing.
+use borrow.Author.Needs.{needs}
+use Rattle.lines.specs.Request.{badLine}
+use Rattle.lines.proofs.line.bad_line.Statement.{statement}
+use Rattle.lines.proofs.line.bad_line.Tie as tie
+
+pub bad-line-spec : {M : Type 1} → statement M
+unfolding badLine
+bad-line-spec =
+    tie.close
+    (tie.spec (λ c κs. search needs) (λ c κs. search needs) (λ c κs. search needs) (λ c κs. search needs) (λ c κs. search needs)
+    (λ c κs. search needs)
+    (λ c.
+    let b = c .before .before in
+    simp (
+      c .bad-digits .ensures,
+      c .before .digits .ensures,
+      b .unknown-name .ensures,
+      b .before .name-of .ensures,
+      b .before .before .name-text .ensures,
+      b .before .before .before .in-form .ensures,
+    )))

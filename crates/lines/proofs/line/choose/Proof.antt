@@ -1,0 +1,13 @@
+-- `lines::line::choose`: by whether the text is the word.
+-- Assumes nothing.
+use borrow.Author.Needs.{needs}
+use mathlib.Core.Path.{sym, _∙_}
+use Rattle.base.proofs.Tests.{yes, no}
+use Rattle.lines.proofs.line.choose.Statement.{statement}
+use Rattle.lines.proofs.line.choose.Tie as tie
+
+pub choose-spec : {M : Type 1} → statement M
+choose-spec =
+    tie.close
+    (tie.spec (λ c κs. search needs) (λ c. yes _ _ (sym (c .before .is-word .ensures) ∙ c .if1 .taken))
+    (λ c. no _ _ (sym (c .before .is-word .ensures) ∙ c .if1 .left)))

@@ -1,0 +1,12 @@
+-- `lines::line::digits`: what is left after one blank and `arg=`.
+-- Assumes nothing.
+use borrow.Author.Needs.{needs}
+use Rattle.lines.specs.Line.{digitsText}
+use Rattle.lines.proofs.line.digits.Statement.{statement}
+use Rattle.lines.proofs.line.digits.Tie as tie
+
+pub digits-spec : {M : Type 1} → statement M
+unfolding digitsText
+digits-spec =
+    tie.close
+    (tie.spec (λ c κs. search needs) (λ c κs. search needs) (λ c. simp (c .rest .ensures, c .before .after-name .ensures)))

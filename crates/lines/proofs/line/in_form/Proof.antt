@@ -1,0 +1,23 @@
+-- `lines::line::in_form`: each test is one of the form.
+-- Assumes nothing.
+use borrow.Author.Needs.{needs}
+use Rattle.lines.specs.Line.{inForm}
+use Rattle.lines.proofs.line.in_form.Statement.{statement}
+use Rattle.lines.proofs.line.in_form.Tie as tie
+
+pub in-form-spec : {M : Type 1} → statement M
+unfolding inForm
+in-form-spec =
+    tie.close
+    (tie.spec (λ c. search needs) (λ c κs. search needs) (λ c κs. search needs) (λ c. search needs) (λ c κs. search needs) (λ c κs. search needs)
+    (λ c κs. search needs) (λ c κs. search needs)
+    (λ c.
+    let b = c .before .before in
+    simp (
+      c .leading-of .ensures,
+      c .before .digits .ensures,
+      b .agreement2 .ensures,
+      b .before .after-name .ensures,
+      b .before .before .before .name-size .ensures,
+      b .before .before .before .before .agreement .ensures,
+    )))

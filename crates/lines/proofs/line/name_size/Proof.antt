@@ -1,0 +1,12 @@
+-- `lines::line::name_size`: the letters that lead what follows `op=`.
+-- Assumes nothing.
+use borrow.Author.Needs.{needs}
+use Rattle.lines.specs.Line.{nameSize}
+use Rattle.lines.proofs.line.name_size.Statement.{statement}
+use Rattle.lines.proofs.line.name_size.Tie as tie
+
+pub name-size-spec : {M : Type 1} → statement M
+unfolding nameSize
+name-size-spec =
+    tie.close
+    (tie.spec (λ c κs. search needs) (λ c κs. search needs) (λ c. simp (c .leading-of .ensures, c .before .rest .ensures)))

@@ -1,0 +1,11 @@
+-- `lines::line::name_text`: the first bytes after `op=`, as many as the name has letters.
+-- Assumes nothing.
+use borrow.Author.Needs.{needs}
+use Rattle.lines.proofs.line.name_text.Statement.{statement}
+use Rattle.lines.proofs.line.name_text.Tie as tie
+
+pub name-text-spec : {M : Type 1} → statement M
+name-text-spec =
+    tie.close
+    (tie.spec (λ c κs. search needs) (λ c κs. search needs) (λ c κs. search needs)
+    (λ c. simp (c .first .ensures, c .before .name-size .ensures, c .before .before .rest .ensures)))

@@ -1,0 +1,29 @@
+-- `lines::print::out_of`: a refused act, one that shows its count, and the two cases of a reply.
+-- Assumes nothing.
+use mathlib.Core.Path.{_≡_, sym, _∙_}
+use mathlib.Core.Bool.{true, false}
+use lib.Dec.{eqb}
+use borrow.Author.Tests.{not-true, not-false}
+use borrow.Author.Needs.{needs}
+use Rattle.base.proofs.Tests.{no}
+use Rattle.lines.specs.Print.{showsCount}
+use Rattle.lines.proofs.print.out_of.Statement.{statement}
+use Rattle.lines.proofs.print.out_of.Tie as tie
+
+-- an act that is done: its number is 0
+done : (c : tie.Else1) → eqb (c .before .args .number) 0 ≡ true
+done c = not-false (eqb (c .before .args .number) 0) (c .if1 .left)
+
+-- it shows no count
+uncounted : (c : tie.Else2) → showsCount (c .before .before .before .args .act) ≡ false
+uncounted c = sym (c .before .shows-count .ensures) ∙ c .if2 .left
+
+pub out-of-spec : {M : Type 1} → statement M
+out-of-spec =
+    tie.close
+    (tie.spec (λ c. no _ _ (not-true (eqb (c .before .args .number) 0) (c .if1 .taken))) (λ c κs. search needs)
+    (λ c. simp (done (c .before .before), sym (c .before .shows-count .ensures) ∙ c .if2 .taken))
+    (λ c. search needs) (λ c. search needs)
+    (λ c. simp (done (c .before .before .before .before), uncounted (c .before .before), c .enum-told .given .1))
+    (λ c. search needs)
+    (λ c. simp (done (c .before .before .before .before .before), uncounted (c .before .before .before), c .before .reply .given .1)))

@@ -1,0 +1,25 @@
+// The lines of a tape: what a line asks for, and the text of an answer. It has the acts by name and knows nothing of what they do.
+use record::Act;
+
+pub mod line; // line.rt: a line's pieces, and what it asks for
+pub mod print; // print.rt: an answer's line
+
+// What the name of a line is: `part`, an act's, or no name.
+pub enum Name {
+    PartName,
+    ActName(Act),
+    Unknown,
+}
+
+// What a line asks for: a part, an act with its number, or nothing, being bad.
+pub enum Request {
+    PartLine(u64),
+    ActLine(Act, u64),
+    Bad,
+}
+
+// What an answer shows: a number, or z for none.
+pub enum Out {
+    Value(u64),
+    Z,
+}

@@ -1,0 +1,139 @@
+-- How many bytes a power cut stores, and what a cut and power up keep: a record in range, and the lengths of its lists and memories.
+-- Assumes nothing.
+use Prim.Native.Nat.{ℕ, _+_, _%_, _<_, _≤_}
+use native.Mathlib.Omega.{arith}
+use mathlib.Core.Path.{_≡_, refl, sym, _∙_}
+use mathlib.Core.Bool.{Bool, true, false, true≢false}
+use mathlib.Core.List.{List}
+use lib.Bits.{bitAnd, and-le-r}
+use lib.Count.{ones, ones-le}
+use lib.Dec.{eqb}
+use lib.ListN.{length, getD, set, length-set, length-replicate}
+use mir.Val.{Fits}
+use mir.Syntax.{w8}
+use Rattle.base.specs.Words.{every, bit, flag, members, changes}
+use Rattle.base.proofs.Tests.{pick-case}
+use Rattle.base.proofs.Every.{same-below}
+use Rattle.base.proofs.BitLaws.{count-ones, below-mask}
+use Rattle.base.proofs.StoreLaws.{set-case, store-changes}
+use Rattle.record.specs.declared.Device.{Device}
+use Rattle.record.specs.declared.EepromAddress.{EepromAddress}
+use Rattle.record.specs.declared.IdAddress.{IdAddress}
+use Rattle.record.specs.declared.Target.the-variants.{Eeprom, Id}
+use Rattle.record.specs.Address.{pageOf}
+use Rattle.record.specs.Fresh.{fresh}
+use Rattle.record.specs.Part.{bootsOf}
+use Rattle.record.specs.Registers.{vbaten, secondsAt, watchdogAt}
+use Rattle.record.specs.Setters.{withWatchdog, withDelay, withPulse}
+use Rattle.record.specs.Stored.{storedSet}
+use Rattle.record.specs.World.{World, Sized}
+use Rattle.record.proofs.PeriodLaws.{period-least}
+use Rattle.refusals.specs.InRange.{PowerRange, InRange}
+use Rattle.refusals.proofs.RangeLaws.{fresh-facts}
+use Rattle.refusals.proofs.KeepLaws.{ClockOf, Beside, beside, watchdog-in, delay-in, pulse-in, regs-in, set-inside, in-range-beside}
+use Rattle.ticks.proofs.WaitLaws.{eeprom-after-length, id-after-length}
+use Rattle.power.specs.Power.{watchdogCut, forgotten, stoppedBy, afterCut, cutCount, cutWorld, afterUp}
+
+-- The ones of the loaded offsets under a mask are the offsets that are stored.
+under-mask : (offsets mask : ℕ) → mask < 256 → bitAnd offsets mask < 256
+under-mask offsets mask h = omega (arith, and-le-r offsets mask)
+
+pub ones-stored : (offsets mask : ℕ) → mask < 256 → ones (bitAnd offsets mask) ≡ members (bitAnd offsets mask) 8
+ones-stored offsets mask h = count-ones (bitAnd offsets mask) (under-mask offsets mask h)
+
+pub ones-fit : (offsets mask : ℕ) → mask < 256 → Fits w8 (ones (bitAnd offsets mask))
+ones-fit offsets mask h = record { fits = omega (arith, ones-le 8 (bitAnd offsets mask) (under-mask offsets mask h)) }
+
+-- bit 0 of a mask
+pub first-bit : (m : ℕ) → m < 256 → m % 2 ≡ flag (bit m 0)
+unfolding every
+first-bit m h = same-below (λ (n : ℕ). n % 2) (λ (n : ℕ). flag (bit n 0)) 256 refl m h
+
+-- What holds of both ends of the clock holds of a cut; beside the clock a cut is what it stops.
+pub cut-case : (P : Device → Type 0) (mask : ℕ) (d : Device) → P (watchdogCut (stoppedBy mask d)) → P (forgotten (stoppedBy mask d)) → P (afterCut mask d)
+unfolding afterCut
+cut-case P mask d p q = pick-case P (vbaten (d .regs)) p q
+
+pub cut-beside : (mask : ℕ) (d : Device) → Beside (stoppedBy mask d) (afterCut mask d)
+cut-beside mask d = cut-case (Beside (stoppedBy mask d)) mask d (beside (stoppedBy mask d)) (beside (stoppedBy mask d))
+
+-- A cut leaves a record in range, whatever its mask.
+stopped-in-range : (part mask : ℕ) (d : Device) → InRange part d → InRange part (stoppedBy mask d)
+stopped-in-range part mask d r =
+    record {
+      clock = r .clock;
+      frame = record { offset = r .frame .offset; place = record { id = omega arith; eeprom = omega arith } };
+      cycle = record { countdown = omega arith; place = r .cycle .place };
+      power = record { idle = λ o. refl; still = λ o. refl; heard = λ h. refl };
+    }
+
+watchdog-cut-in : (boots : Bool) (d : Device) → ClockOf boots d → ClockOf boots (watchdogCut d)
+watchdog-cut-in boots d r =
+    let v : ℕ = getD (d .regs) watchdogAt 0 % 128 in
+    let b : v < 256 = omega arith in
+    let e : Device = withPulse (withDelay (withWatchdog d 0) 0) 0 in
+    regs-in boots e
+    (pulse-in boots (withDelay (withWatchdog d 0) 0)
+    (delay-in boots (withWatchdog d 0) (watchdog-in boots d r 0 (omega (arith, period-least (getD (d .regs) watchdogAt 0)))) 0 (omega arith))
+    0 (omega arith))
+    (set (d .regs) watchdogAt v) (set-inside (d .regs) watchdogAt v (below-mask 8 (omega arith) v b b) (r .inside))
+    (omega (arith, period-least (getD (set (d .regs) watchdogAt v) watchdogAt 0)))
+    (set-case (λ (x : ℕ). boots ≡ false → bit x 7 ≡ false → d .counters .startup ≡ 0) (d .regs) watchdogAt secondsAt v (λ q. absurd (omega arith)) (r .stopped))
+
+pub cut-in-range : (part mask : ℕ) (d : Device) → InRange part d → InRange part (afterCut mask d)
+unfolding fresh
+cut-in-range part mask d r =
+    in-range-beside part (stoppedBy mask d) (afterCut mask d) (stopped-in-range part mask d r) (cut-beside mask d)
+    (cut-case (ClockOf (bootsOf part)) mask d (watchdog-cut-in (bootsOf part) (stoppedBy mask d) (r .clock)) (fresh-facts part .clock))
+
+pub cut-sized : (mask : ℕ) (d : Device) → Sized d → Sized (afterCut mask d)
+cut-sized mask d z =
+    cut-case Sized mask d
+    (record { regs = length-set (d .regs) watchdogAt _ ∙ z .regs; sram = z .sram; bytes = z .bytes; offsets = z .offsets })
+    (record { regs = refl; sram = length-replicate {A = ℕ} 64 0; bytes = z .bytes; offsets = z .offsets })
+
+-- a cut keeps the lengths of both memories
+pub cut-device : (mask : ℕ) (w : World) → cutWorld mask w .device ≡ afterCut mask (w .device)
+unfolding cutWorld
+cut-device mask w = refl
+
+pub cut-lengths :
+    (mask : ℕ) (w : World) → (length (cutWorld mask w .eeprom) ≡ length (w .eeprom)) × (length (cutWorld mask w .id) ≡ length (w .id))
+unfolding cutWorld
+cut-lengths mask w = (
+  pick-case (λ (m : List ℕ). length m ≡ length (w .eeprom)) (eqb (w .device .cycle .left) 0) refl
+  (eeprom-after-length (w .device .load) mask (w .eeprom) (w .device .cycle .target)),
+  pick-case (λ (m : List ℕ). length m ≡ length (w .id)) (eqb (w .device .cycle .left) 0) refl
+  (id-after-length (w .device .load) mask (w .id) (w .device .cycle .target)),
+)
+
+-- W9. The count that a cut answers is the number of bytes that it changed, where every loaded byte is another than the one at its place.
+module _ (mask : ℕ) (w : World) (runs : eqb (w .device .cycle .left) 0 ≡ false) where
+  abbrev Others : ℕ → List ℕ → Type 0
+  Others a m = (pageOf a + 8 ≤ length m) × ((k : ℕ) → k < 8 → getD (w .device .load .bytes) k 0 ≡ getD m (pageOf a + k) 0 → ⊥)
+
+  pub cut-counts-eeprom :
+      (a : EepromAddress) → w .device .cycle .target ≡ Eeprom a → Others (a .0) (w .eeprom)
+      → cutCount mask (w .device) ≡ changes (w .eeprom) (cutWorld mask w .eeprom)
+  unfolding cutCount cutWorld
+  cut-counts-eeprom a t o = rw (runs, t) (sym (store-changes (w .eeprom) (pageOf (a .0)) (storedSet (w .device .load) mask) (w .device .load .bytes) 8 (o .0) (o .1)))
+
+  pub cut-counts-id :
+      (a : IdAddress) → w .device .cycle .target ≡ Id a → Others (a .0) (w .id) → cutCount mask (w .device) ≡ changes (w .id) (cutWorld mask w .id)
+  unfolding cutCount cutWorld
+  cut-counts-id a t o = rw (runs, t) (sym (store-changes (w .id) (pageOf (a .0)) (storedSet (w .device .load) mask) (w .device .load .bytes) 8 (o .0) (o .1)))
+
+-- power up leaves a record in range
+pub up-in-range : (part : ℕ) (d : Device) → InRange part d → InRange part (afterUp d)
+unfolding afterUp
+up-in-range part d r =
+    record {
+      clock = r .clock;
+      frame = r .frame;
+      cycle = r .cycle;
+      power = record { idle = λ o. absurd (true≢false o); still = λ o. absurd (true≢false o); heard = r .power .heard };
+    }
+
+pub up-sized : (d : Device) → Sized d → Sized (afterUp d)
+unfolding afterUp
+up-sized d z = record { regs = z .regs; sram = z .sram; bytes = z .bytes; offsets = z .offsets }

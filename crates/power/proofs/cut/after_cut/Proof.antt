@@ -1,0 +1,13 @@
+-- `power::cut::after_cut`.
+-- Assumes nothing.
+use Rattle.power.specs.Power.{afterCut}
+use borrow.Author.Needs.{needs}
+use Rattle.power.proofs.cut.after_cut.Statement.{statement}
+use Rattle.power.proofs.cut.after_cut.Tie as tie
+
+pub after-cut-spec : {M : Type 1} → statement M
+unfolding afterCut
+after-cut-spec =
+    tie.close
+    (tie.spec
+    (λ c κs. search needs) (λ c κs. search needs) (λ c. simp (c .clock-cut .ensures, c .before .before .protection-cut .ensures)))

@@ -1,0 +1,14 @@
+-- `power::cut::clock_cut`.
+-- Assumes nothing.
+use borrow.Author.Needs.{needs}
+use Rattle.power.proofs.cut.clock_cut.Statement.{statement}
+use Rattle.power.proofs.cut.clock_cut.Tie as tie
+
+pub clock-cut-spec : {M : Type 1} → statement M
+clock-cut-spec =
+    tie.close
+    (tie.spec
+    (λ c κs. search needs) (λ c κs. search needs)
+    (λ c. simp (c .watchdog-cut .ensures, simp (c .before .before .battery-enabled .ensures) at (c .before .if1 .taken), c .before .before .battery-enabled .ensures))
+    (λ c κs. search needs)
+    (λ c. simp (c .forgotten-clock .ensures, simp (c .before .before .battery-enabled .ensures) at (c .before .if1 .left), c .before .before .battery-enabled .ensures)))

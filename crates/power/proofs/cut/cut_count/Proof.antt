@@ -1,0 +1,14 @@
+-- `power::cut::cut_count`.
+-- Assumes nothing.
+use borrow.Author.Tests.{eq-eqb, ne-eqb}
+use Rattle.power.specs.Power.{cutCount}
+use borrow.Author.Needs.{needs}
+use Rattle.power.proofs.cut.cut_count.Statement.{statement}
+use Rattle.power.proofs.cut.cut_count.Tie as tie
+
+pub cut-count-spec : {M : Type 1} → statement M
+unfolding cutCount
+cut-count-spec =
+    tie.close
+    (tie.spec
+    (λ c. simp (eq-eqb _ _ (c .if1 .taken))) (λ c κs. search needs) (λ c. simp (c .stored-count .ensures, ne-eqb _ _ (c .before .if1 .left))))

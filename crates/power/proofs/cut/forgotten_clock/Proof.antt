@@ -1,0 +1,11 @@
+-- `power::cut::forgotten_clock`.
+-- Assumes nothing.
+use borrow.Author.Needs.{needs}
+use Rattle.power.proofs.cut.forgotten_clock.Statement.{statement}
+use Rattle.power.proofs.cut.forgotten_clock.Tie as tie
+
+pub forgotten-clock-spec : {M : Type 1} → statement M
+forgotten-clock-spec =
+    tie.close
+    (tie.spec
+    (λ c κs. search needs) (λ c κs. search needs) (λ c. simp (c .fresh-counters .ensures, c .before .fresh-regs .ensures)))

@@ -1,0 +1,54 @@
+-- A power cut, and power up. What a cut cycle stores, and how many bytes that is, are in Stored.
+-- Assumes nothing.
+use Prim.Native.Nat.{ℕ, _%_}
+use mathlib.Core.Bool.{true, false}
+use lib.Dec.{eqb}
+use lib.ListN.{getD, set}
+use Rattle.base.specs.Words.{pick}
+use Rattle.record.specs.declared.Device.{Device}
+use Rattle.record.specs.declared.Protection.{Protection}
+use Rattle.record.specs.declared.Stage.the-variants.{Idle}
+use Rattle.record.specs.declared.Lock.the-variants.{Closed}
+use Rattle.record.specs.Registers.{vbaten, watchdogAt}
+use Rattle.record.specs.Fresh.{freshRegs, freshSram, freshCounters}
+use Rattle.record.specs.Setters.{withRegs, withSram, withCounters, withWatchdog, withDelay, withPulse, withPower, withWel, withProtection, withLock, withStage, withLeft}
+use Rattle.record.specs.World.{World, world}
+use Rattle.record.specs.Stored.{eepromAfter, idAfter, protectionAfter, storedCount}
+
+-- P7. A cut clears WDTEN, and the watchdog's count, delay and pulse.
+abbrev pub watchdogCut : Device → Device
+watchdogCut d = withPulse (withDelay (withWatchdog (withRegs d (set (d .regs) watchdogAt (getD (d .regs) watchdogAt 0 % 128))) 0) 0) 0
+
+-- P10. Without the battery registers, SRAM and all counts are as fresh.
+abbrev pub forgotten : Device → Device
+forgotten d = withCounters (withSram (withRegs d freshRegs) freshSram) freshCounters
+
+-- P9, P10. VBATEN decides which.
+abbrev pub clockCut : Device → Device
+clockCut d = pick (vbaten (d .regs)) (watchdogCut d) (forgotten d)
+
+-- P3, P11. The protection stays, but for a STATUS cycle that the mask let through.
+abbrev pub protectionCut : ℕ → Device → Protection
+protectionCut mask d = pick (eqb (d .cycle .left) 0) (d .guard .protection) (protectionAfter mask (d .guard .protection) (d .cycle .target))
+
+-- P5, P6, P8, G6. The cycle is gone, the frame dropped, WEL cleared, the lock closed, the chip not selected.
+abbrev pub stoppedBy : ℕ → Device → Device
+stoppedBy mask d = withPower (withStage (withLeft (withLock (withWel (withProtection d (protectionCut mask d)) false) Closed) 0) Idle) false
+
+unfoldable pub afterCut : ℕ → Device → Device
+afterCut mask d = clockCut (stoppedBy mask d)
+
+-- A6, P2, P4. How many bytes a cut stored; 0 with no cycle.
+unfoldable pub cutCount : ℕ → Device → ℕ
+cutCount mask d = pick (eqb (d .cycle .left) 0) 0 (storedCount (d .load) mask (d .cycle .target))
+
+-- P1, P2. the chip with its memories after a cut
+unfoldable pub cutWorld : ℕ → World → World
+cutWorld mask w =
+    world (afterCut mask (w .device))
+    (pick (eqb (w .device .cycle .left) 0) (w .eeprom) (eepromAfter (w .device .load) mask (w .eeprom) (w .device .cycle .target)))
+    (pick (eqb (w .device .cycle .left) 0) (w .id) (idAfter (w .device .load) mask (w .id) (w .device .cycle .target)))
+
+-- power comes back, and nothing else
+unfoldable pub afterUp : Device → Device
+afterUp d = withPower d true

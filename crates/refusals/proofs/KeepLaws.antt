@@ -1,0 +1,98 @@
+-- What keeps a record in range: a law for each count and for the registers, each with only what it changes to be shown; and that what leaves
+-- frame, cycle and power alone keeps their part of the range.
+-- Assumes nothing.
+use Prim.Native.Nat.{ℕ, _<_, _≤_}
+use native.Mathlib.Omega.{arith}
+use mathlib.Core.Path.{_≡_, refl, sym, subst}
+use mathlib.Core.Bool.{Bool, false}
+use mathlib.Core.List.{List}
+use lib.Bits.{bitAnd}
+use lib.ListN.{getD, set}
+use Rattle.base.proofs.StoreLaws.{set-case}
+use Rattle.record.specs.declared.Device.{Device}
+use Rattle.record.specs.declared.Counters.{Counters}
+use Rattle.record.specs.declared.Guard.{Guard}
+use Rattle.record.specs.Part.{bootsOf}
+use Rattle.record.specs.Registers.{st, watchdogAt, kept, periodOf, startupTicks, dividerTicks, longPulse, delayTicks}
+use Rattle.record.specs.Setters.{withRegs, withSram, withCounters, withDivider, withStartup, withWatchdog, withDelay, withPulse, withGuard, withLeft}
+use Rattle.refusals.specs.InRange.{ClockRange, InRange}
+
+-- the range of a device's registers and counts, and the three facts of it that read a register
+abbrev pub ClockOf : Bool → Device → Type 0
+ClockOf boots d = ClockRange boots (d .regs) (d .counters)
+
+abbrev pub Inside : ℕ → ℕ → Type 0
+Inside k v = bitAnd v (getD kept k 0) ≡ v
+
+abbrev pub AllInside : List ℕ → Type 0
+AllInside regs = (k : ℕ) → k < 32 → Inside k (getD regs k 0)
+
+abbrev pub Paced : Counters → List ℕ → Type 0
+Paced c regs = c .watchdog < periodOf (getD regs watchdogAt 0)
+
+abbrev pub Halted : Bool → Counters → List ℕ → Type 0
+Halted boots c regs = boots ≡ false → st regs ≡ false → c .startup ≡ 0
+
+module _ (boots : Bool) (d : Device) (r : ClockOf boots d) where
+  pub divider-in : (n : ℕ) → n < dividerTicks → ClockOf boots (withDivider d n)
+  divider-in n h =
+      record { divider = h; startup = r .startup; pulse = r .pulse; delay = r .delay; watchdog = r .watchdog; stopped = r .stopped; inside = r .inside }
+
+  pub startup-in : (n : ℕ) → n ≤ startupTicks → (boots ≡ false → st (d .regs) ≡ false → n ≡ 0) → ClockOf boots (withStartup d n)
+  startup-in n h s =
+      record { divider = r .divider; startup = h; pulse = r .pulse; delay = r .delay; watchdog = r .watchdog; stopped = s; inside = r .inside }
+
+  pub watchdog-in : (n : ℕ) → n < periodOf (getD (d .regs) watchdogAt 0) → ClockOf boots (withWatchdog d n)
+  watchdog-in n h =
+      record { divider = r .divider; startup = r .startup; pulse = r .pulse; delay = r .delay; watchdog = h; stopped = r .stopped; inside = r .inside }
+
+  pub delay-in : (n : ℕ) → n ≤ delayTicks → ClockOf boots (withDelay d n)
+  delay-in n h =
+      record { divider = r .divider; startup = r .startup; pulse = r .pulse; delay = h; watchdog = r .watchdog; stopped = r .stopped; inside = r .inside }
+
+  pub pulse-in : (n : ℕ) → n ≤ longPulse → ClockOf boots (withPulse d n)
+  pulse-in n h =
+      record { divider = r .divider; startup = r .startup; pulse = h; delay = r .delay; watchdog = r .watchdog; stopped = r .stopped; inside = r .inside }
+
+  pub regs-in : (regs : List ℕ) → AllInside regs → Paced (d .counters) regs → Halted boots (d .counters) regs → ClockOf boots (withRegs d regs)
+  regs-in regs i p h =
+      record { divider = r .divider; startup = r .startup; pulse = r .pulse; delay = r .delay; watchdog = p; stopped = h; inside = i }
+
+-- a register whose new value is inside its mask
+pub set-inside : (regs : List ℕ) (a v : ℕ) → Inside a v → AllInside regs → AllInside (set regs a v)
+set-inside regs a v p q k h = set-case (Inside k) regs a k v (λ e. subst (λ (j : ℕ). Inside j v) (sym e) p) (q k h)
+
+-- e has all of d but registers, SRAM and counts
+pub record Beside (d e : Device) : Type 0 where
+  pub power : e .power ≡ d .power
+  pub guard : e .guard ≡ d .guard
+  pub frame : e .frame ≡ d .frame
+  pub load : e .load ≡ d .load
+  pub cycle : e .cycle ≡ d .cycle
+
+-- a device with other registers, SRAM and counts
+pub beside : (d : Device) {regs sram : List ℕ} {counters : Counters} → Beside d (withCounters (withSram (withRegs d regs) sram) counters)
+beside d = record { power = refl; guard = refl; frame = refl; load = refl; cycle = refl }
+
+-- the other subjects read nothing else
+pub in-range-beside : (part : ℕ) (d e : Device) → InRange part d → Beside d e → ClockOf (bootsOf part) e → InRange part e
+in-range-beside part d e r s k =
+    record {
+      clock = k;
+      frame = rw (s .frame, s .load) (r .frame);
+      cycle = rw (s .cycle) (r .cycle);
+      power = rw (s .power, s .frame, s .cycle) (r .power);
+    }
+
+-- the guard is judged by no row, and a countdown may fall
+pub guard-in : (part : ℕ) (d : Device) (g : Guard) → InRange part d → InRange part (withGuard d g)
+guard-in part d g r = record { clock = r .clock; frame = r .frame; cycle = r .cycle; power = r .power }
+
+pub left-in : (part : ℕ) (d : Device) (k : ℕ) → k ≤ d .cycle .left → InRange part d → InRange part (withLeft d k)
+left-in part d k h r =
+    record {
+      clock = r .clock;
+      frame = r .frame;
+      cycle = record { countdown = omega (arith, r .cycle .countdown); place = r .cycle .place };
+      power = record { idle = r .power .idle; still = λ o. omega (arith, r .power .still o); heard = λ l. r .power .heard (omega arith) };
+    }

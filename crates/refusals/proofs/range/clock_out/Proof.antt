@@ -1,0 +1,14 @@
+-- `refusals::range::clock_out`.
+-- Assumes nothing.
+use Rattle.refusals.specs.Range.{clockOut}
+use borrow.Author.Needs.{needs}
+use Rattle.refusals.proofs.range.clock_out.Statement.{statement}
+use Rattle.refusals.proofs.range.clock_out.Tie as tie
+
+pub clock-out-spec : {M : Type 1} → statement M
+unfolding clockOut
+clock-out-spec =
+    tie.close
+    (tie.spec
+    (λ c. search needs) (λ c κs. search needs) (λ c. search needs) (λ c κs. search needs)
+    (λ c. simp (c .before .before .before .before .before .before .bit-outside .ensures, c .before .before .before .before .before .before .before .period .ensures)))

@@ -1,0 +1,13 @@
+-- `refusals::range::power_out`.
+-- Assumes nothing.
+use Rattle.refusals.specs.Range.{powerOut}
+use borrow.Author.Needs.{needs}
+use Rattle.refusals.proofs.range.power_out.Statement.{statement}
+use Rattle.refusals.proofs.range.power_out.Tie as tie
+
+pub power-out-spec : {M : Type 1} → statement M
+unfolding powerOut
+power-out-spec =
+    tie.close
+    (tie.spec
+    (λ c κs. search needs) (λ c κs. search needs) (λ c. simp (c .foreign-to-wip .ensures, c .before .is-selected .ensures)))

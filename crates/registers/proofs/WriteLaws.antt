@@ -1,0 +1,110 @@
+-- Laws of WRITE to the clock block: what it leaves alone, the lengths of registers and SRAM, and that it keeps a record in range.
+-- Assumes nothing.
+use mathlib.Core.Path.{_≡_, refl, sym, _∙_}
+use mathlib.Core.Bool.{Bool, false, not, _&&_}
+use mathlib.Core.List.{List}
+use mathlib.Core.Logic.{_≢_}
+use Prim.Native.Nat.{ℕ, _<_, _≤_}
+use native.Mathlib.Omega.{arith}
+use borrow.Author.Tests.{ltb-true, eqb-true, eqb-false}
+use lib.Bits.{bitAnd}
+use lib.Dec.{ltb, eqb}
+use lib.ListN.{length, getD, set, length-set}
+use Rattle.base.specs.Words.{bit, every}
+use Rattle.base.proofs.Tests.{pick-case, pick-when, true-false}
+use Rattle.base.proofs.Every.{same-below}
+use Rattle.base.proofs.BitLaws.{and-inside}
+use Rattle.base.proofs.StoreLaws.{set-case}
+use Rattle.record.specs.declared.Device.{Device}
+use Rattle.record.specs.declared.ClockAddress.{ClockAddress}
+use Rattle.record.specs.Part.{bootsOf}
+use Rattle.record.specs.Registers.{st, wdten, wdtif, wddel, secondsAt, watchdogAt, writable, kept, periodOf, delayTicks}
+use Rattle.record.specs.Setters.{withRegs, withSram, withStartup, withWatchdog, withDelay}
+use Rattle.record.proofs.PeriodLaws.{period-least}
+use Rattle.refusals.specs.InRange.{InRange}
+use Rattle.refusals.proofs.KeepLaws.{ClockOf, Inside, AllInside, Paced, Halted, startup-in, watchdog-in, delay-in, regs-in, set-inside, Beside, beside, in-range-beside}
+use Rattle.registers.specs.Write.{delayAfter, afterWrite, writeClock}
+
+-- What holds of what each kind of WRITE leaves, holds of what WRITE leaves: a register's write with no further effect, with the oscillator
+-- stopped, with the watchdog restarted; an SRAM byte; nothing.
+pub write-case :
+    (P : Device → Type 0) (boots : Bool) (d : Device) (a : ClockAddress) (v : ℕ)
+    → ((s : ℕ) → a .0 < 32 → s ≡ bitAnd v (getD writable (a .0) 0) → P (afterWrite boots (a .0) (withRegs d (set (d .regs) (a .0) s))))
+    → ((k : ℕ) → P (withSram d (set (d .sram) k v))) → P d → P (writeClock boots d a v)
+unfolding writeClock
+write-case P boots d a v p q r =
+    pick-when P (ltb (a .0) 0x20) (λ t. p _ (ltb-true (a .0) 0x20 t) refl)
+    (λ t. pick-case P (ltb (a .0) 0x60) (q _) r)
+
+pub write-beside : (boots : Bool) (d : Device) (a : ClockAddress) (v : ℕ) → Beside d (writeClock boots d a v)
+unfolding afterWrite
+write-beside boots d a v =
+    write-case (Beside d) boots d a v
+    (λ s h e.
+    pick-case (Beside d) (eqb (a .0) secondsAt) (pick-case (Beside d) (not boots && not (st (set (d .regs) (a .0) s))) (beside d) (beside d))
+    (pick-case (Beside d) (eqb (a .0) watchdogAt) (beside d) (beside d)))
+    (λ k. beside d) (beside d)
+
+-- and the lengths
+after-lengths :
+    (boots : Bool) (a : ℕ) (d : Device)
+    → (length (afterWrite boots a d .regs) ≡ length (d .regs)) × (length (afterWrite boots a d .sram) ≡ length (d .sram))
+unfolding afterWrite
+after-lengths boots a d =
+    let P : Device → Type 0 = λ e. (length (e .regs) ≡ length (d .regs)) × (length (e .sram) ≡ length (d .sram)) in
+    pick-case P (eqb a secondsAt) (pick-case P (not boots && not (st (d .regs))) (refl, refl) (refl, refl))
+    (pick-case P (eqb a watchdogAt) (refl, refl) (refl, refl))
+
+pub write-lengths :
+    (boots : Bool) (d : Device) (a : ClockAddress) (v : ℕ)
+    → (length (writeClock boots d a v .regs) ≡ length (d .regs)) × (length (writeClock boots d a v .sram) ≡ length (d .sram))
+write-lengths boots d a v =
+    write-case (λ (e : Device). (length (e .regs) ≡ length (d .regs)) × (length (e .sram) ≡ length (d .sram))) boots d a v
+    (λ s h e.
+    let l = after-lengths boots (a .0) (withRegs d (set (d .regs) (a .0) s)) in
+    (l .0 ∙ length-set (d .regs) (a .0) s, l .1))
+    (λ k. (refl, length-set (d .sram) k v)) (refl, refl)
+
+-- what WRITE stores is inside its mask: the writable bits are among those that a register may hold
+pub written-inside : (a v : ℕ) → a < 32 → Inside a (bitAnd v (getD writable a 0))
+unfolding every
+written-inside a v h =
+    and-inside v (getD writable a 0) (getD kept a 0)
+    (same-below (λ (k : ℕ). bitAnd (getD writable k 0) (getD kept k 0)) (λ (k : ℕ). getD writable k 0) 32 refl a h)
+
+-- a stored register and what follows from it
+after-write-in :
+    (boots : Bool) (a s : ℕ) (d : Device) → Inside a s → ClockOf boots d → ClockOf boots (afterWrite boots a (withRegs d (set (d .regs) a s)))
+unfolding afterWrite
+after-write-in boots a s d i r =
+    let regs : List ℕ = set (d .regs) a s in
+    let still : AllInside regs = set-inside (d .regs) a s i (r .inside) in
+    let paced : a ≢ watchdogAt → Paced (d .counters) regs =
+    λ n. set-case (λ (v : ℕ). d .counters .watchdog < periodOf v) (d .regs) a watchdogAt s (λ e. absurd (n (sym e))) (r .watchdog) in
+    let halted : a ≢ secondsAt → Halted boots (d .counters) regs =
+    λ n. set-case (λ (v : ℕ). boots ≡ false → bit v 7 ≡ false → d .counters .startup ≡ 0) (d .regs) a secondsAt s (λ e. absurd (n (sym e))) (r .stopped) in
+    pick-when (ClockOf boots) (eqb a secondsAt)
+    (λ e.
+    let n : a ≢ watchdogAt = λ q. omega (arith, eqb-true a secondsAt e) in
+    pick-when (ClockOf boots) (not boots && not (st regs))
+    (λ t. regs-in boots (withStartup d 0) (startup-in boots d r 0 (omega arith) (λ b o. refl)) regs still (paced n) (λ b o. refl))
+    (λ t. regs-in boots d r regs still (paced n) (λ b o. absurd (true-false (simp (b, o)) t))))
+    (λ e.
+    let m : a ≢ secondsAt = eqb-false a secondsAt e in
+    pick-when (ClockOf boots) (eqb a watchdogAt)
+    (λ q.
+    let v : ℕ = getD regs watchdogAt 0 in
+    let l : delayAfter v ≤ delayTicks = pick-case (λ (n : ℕ). n ≤ delayTicks) ((wdten v && wddel v) && not (wdtif v)) (omega arith) (omega arith) in
+    regs-in boots (withDelay (withWatchdog d 0) (delayAfter v))
+    (delay-in boots (withWatchdog d 0) (watchdog-in boots d r 0 (omega (arith, period-least (getD (d .regs) watchdogAt 0)))) (delayAfter v) l)
+    regs still (omega (arith, period-least v)) (halted m))
+    (λ q. regs-in boots d r regs still (paced (eqb-false a watchdogAt q)) (halted m)))
+
+-- WRITE keeps a record in range, at every address and of every value
+pub write-in-range :
+    (part : ℕ) (d : Device) (a : ClockAddress) (v : ℕ) → InRange part d → InRange part (writeClock (bootsOf part) d a v)
+write-in-range part d a v r =
+    in-range-beside part d (writeClock (bootsOf part) d a v) r (write-beside (bootsOf part) d a v)
+    (write-case (ClockOf (bootsOf part)) (bootsOf part) d a v
+    (λ s h e. after-write-in (bootsOf part) (a .0) s d (rw e (written-inside (a .0) v h)) (r .clock))
+    (λ k. r .clock) (r .clock))

@@ -1,0 +1,18 @@
+-- `registers::read::made_bits`.
+-- Assumes nothing.
+use borrow.Author.Tests.{eq-eqb, ne-eqb}
+use borrow.Author.Needs.{needs}
+use Rattle.registers.proofs.read.made_bits.Statement.{statement}
+use Rattle.registers.proofs.read.made_bits.Tie as tie
+
+pub made-bits-spec : {M : Type 1} → statement M
+made-bits-spec =
+    tie.close
+    (tie.spec
+    (λ c. search needs) (λ c κs. search needs) (λ c κs. search needs)
+    (λ c. simp (c .bits-if .ensures, c .before .is-oscon .ensures, eq-eqb _ _ (c .before .before .before .if1 .taken))) (λ c. search needs)
+    (λ c κs. search needs) (λ c κs. search needs)
+    (λ c. simp (c .bits-if2 .ensures, c .before .leap .ensures, eq-eqb _ _ (c .before .before .before .if2 .taken), ne-eqb _ _ (c .before .before .before .before .if1 .left)))
+    (λ c. search needs) (λ c κs. search needs)
+    (λ c. simp (c .bits-if3 .ensures, c .before .before .if3 .taken, ne-eqb _ _ (c .before .before .before .if2 .left), ne-eqb _ _ (c .before .before .before .before .if1 .left)))
+    (λ c. simp (c .if3 .left, ne-eqb _ _ (c .before .if2 .left), ne-eqb _ _ (c .before .before .if1 .left))))

@@ -1,0 +1,17 @@
+-- `registers::read::read_clock`.
+-- Assumes nothing.
+use borrow.Author.Tests.{le-ltb, lt-ltb}
+use Rattle.registers.specs.Read.{readClock}
+use borrow.Author.Needs.{needs}
+use Rattle.registers.proofs.read.read_clock.Statement.{statement}
+use Rattle.registers.proofs.read.read_clock.Tie as tie
+
+pub read-clock-spec : {M : Type 1} → statement M
+unfolding readClock
+read-clock-spec =
+    tie.close
+    (tie.spec
+    (λ c. search needs) (λ c κs. search needs) (λ c. search needs)
+    (λ c. simp (c .before .made-bits .ensures, lt-ltb _ _ (c .before .before .if1 .taken))) (λ c. search needs) (λ c. search needs)
+    (λ c. simp (lt-ltb _ _ (c .before .if2 .taken), le-ltb _ _ (c .before .before .if1 .left)))
+    (λ c. simp (le-ltb _ _ (c .if2 .left), le-ltb _ _ (c .before .if1 .left))))

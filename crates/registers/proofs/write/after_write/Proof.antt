@@ -1,0 +1,17 @@
+-- `registers::write::after_write`.
+-- Assumes nothing.
+use borrow.Author.Tests.{eq-eqb, ne-eqb}
+use Rattle.registers.specs.Write.{afterWrite}
+use borrow.Author.Needs.{needs}
+use Rattle.registers.proofs.write.after_write.Statement.{statement}
+use Rattle.registers.proofs.write.after_write.Tie as tie
+
+pub after-write-spec : {M : Type 1} → statement M
+unfolding afterWrite
+after-write-spec =
+    tie.close
+    (tie.spec
+    (λ c. search needs) (λ c. search needs) (λ c. simp (c .before .if2 .taken, eq-eqb _ _ (c .before .before .before .if1 .taken)))
+    (λ c. simp (c .if2 .left, eq-eqb _ _ (c .before .before .if1 .taken))) (λ c. search needs) (λ c κs. search needs)
+    (λ c. simp (c .delay-after .ensures, eq-eqb _ _ (c .before .before .before .if3 .taken), ne-eqb _ _ (c .before .before .before .before .if1 .left)))
+    (λ c. simp (ne-eqb _ _ (c .if3 .left), ne-eqb _ _ (c .before .if1 .left))))

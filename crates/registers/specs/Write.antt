@@ -1,0 +1,35 @@
+-- WRITE of the clock block, a byte at a time, and what a register's write causes. Not how an address is taken or rolls over, and not when a
+-- frame writes.
+-- Assumes nothing.
+use Prim.Native.Nat.{ℕ, _-_}
+use mathlib.Core.Bool.{Bool, not, _&&_}
+use lib.Dec.{ltb, eqb}
+use lib.Bits.{bitAnd}
+use lib.ListN.{getD, set}
+use Rattle.base.specs.Words.{pick}
+use Rattle.record.specs.declared.Device.{Device}
+use Rattle.record.specs.declared.ClockAddress.{ClockAddress}
+use Rattle.record.specs.Registers.{st, wdten, wdtif, wddel, secondsAt, watchdogAt, writable, delayTicks}
+use Rattle.record.specs.Setters.{withRegs, withSram, withStartup, withWatchdog, withDelay}
+
+-- K27. The delay that a value of 0Ah sets: 64 s if WDTEN and WDDEL are set and WDTIF is clear, else none.
+abbrev pub delayAfter : ℕ → ℕ
+delayAfter v = pick ((wdten v && wddel v) && not (wdtif v)) delayTicks 0
+
+-- What follows from the write of register a, by the registers as it left them.
+-- K4. ST cleared on a W part zeroes the start-up count, and with it OSCON.
+-- K27. Any write of 0Ah zeroes the watchdog's count and sets the delay anew.
+unfoldable pub afterWrite : Bool → ℕ → Device → Device
+afterWrite boots a d =
+    pick (eqb a secondsAt) (pick (not boots && not (st (d .regs))) (withStartup d 0) d)
+    (pick (eqb a watchdogAt) (withDelay (withWatchdog d 0) (delayAfter (getD (d .regs) watchdogAt 0))) d)
+
+-- F12, G10. A byte is stored under its register's mask of writable bits.
+abbrev pub writeRegister : Bool → Device → ℕ → ℕ → Device
+writeRegister boots d a v = afterWrite boots a (withRegs d (set (d .regs) a (bitAnd v (getD writable a 0))))
+
+-- F11, F12, C4, C5. What WRITE does: a register, an SRAM byte, and nothing from 60h up (bench).
+unfoldable pub writeClock : Bool → Device → ClockAddress → ℕ → Device
+writeClock boots d a v =
+    pick (ltb (a .0) 0x20) (writeRegister boots d (a .0) v)
+    (pick (ltb (a .0) 0x60) (withSram d (set (d .sram) (a .0 - 0x20) v)) d)

@@ -1,0 +1,79 @@
+// What WRITE does at an address of the clock block.
+use record::ClockAddress;
+use record::Device;
+use record::registers::DELAY_TICKS;
+use record::registers::SECONDS;
+use record::registers::ST;
+use record::registers::WATCHDOG;
+use record::registers::WDDEL;
+use record::registers::WDTEN;
+use record::registers::WDTIF;
+use record::registers::WRITABLE;
+ghost use mathlib.Core.Path.{_≡_};
+ghost use Prim.Native.Nat.{_<_};
+ghost use Rattle.registers.specs.Write.{delayAfter, afterWrite, writeRegister, writeClock};
+
+// The delay that a value of 0Ah sets.
+fn delay_after(v: u8) -> u32
+    ensures { λ r. ⌜ r ≡ delayAfter v ⌝ }
+{
+    if (v / WDTEN % 2 == 1) & (v / WDDEL % 2 == 1) & !(v / WDTIF % 2 == 1) {
+        DELAY_TICKS
+    } else {
+        0
+    }
+}
+
+// What follows from a register's write: 01h may stop the oscillator, 0Ah restarts the watchdog.
+fn after_write(boots: bool, at: ClockAddress, d: Device) -> Device
+    ensures { λ r. ⌜ r ≡ afterWrite boots (at .0) d ⌝ }
+{
+    let a = at.0 as usize;
+    if a == SECONDS {
+        if !boots & !(d.regs[SECONDS] / ST % 2 == 1) {
+            let mut counters = d.counters;
+            counters.startup = 0;
+            let mut next = d;
+            next.counters = counters;
+            return next;
+        }
+        return d;
+    }
+    if a == WATCHDOG {
+        let mut counters = d.counters;
+        counters.watchdog = 0;
+        counters.delay = delay_after(d.regs[WATCHDOG]);
+        let mut next = d;
+        next.counters = counters;
+        return next;
+    }
+    d
+}
+
+// WRITE to a register, under its mask.
+fn write_register(boots: bool, d: Device, at: ClockAddress, v: u8) -> Device
+    requires { ⌜ at .0 < 32 ⌝ }
+    ensures { λ r. ⌜ r ≡ writeRegister boots d (at .0) v ⌝ }
+{
+    let i = at.0 as usize;
+    let mut next = d;
+    next.regs[i] = v & WRITABLE[i];
+    after_write(boots, at, next)
+}
+
+// From 60h up a WRITE is dropped (bench).
+pub fn write_clock(boots: bool, d: Device, at: ClockAddress, v: u8) -> Device
+    ensures { λ r. ⌜ r ≡ writeClock boots d at v ⌝ }
+{
+    let a = at.0;
+    if a < 0x20 {
+        return write_register(boots, d, at, v);
+    }
+    if a < 0x60 {
+        let i = (a - 0x20) as usize;
+        let mut next = d;
+        next.sram[i] = v;
+        return next;
+    }
+    d
+}

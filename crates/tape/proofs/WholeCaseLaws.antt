@@ -1,0 +1,29 @@
+-- The whole case computes: every definition between the bytes and the chip is opened, and none of the calendar's, since no tick of it counts.
+-- Assumes nothing.
+use mathlib.Core.Path.{refl}
+use Rattle.base.specs.Wait.{waitedBy}
+use Rattle.base.specs.Words.{every, storeUnder}
+use Rattle.record.specs.Fresh.{fresh}
+use Rattle.refusals.specs.Range.{outOfRange, clockOut, frameOut, cycleOut, powerOut, bitOutside}
+use Rattle.refusals.specs.Refusal.{refusalOf}
+use Rattle.ticks.specs.Lines.{irqLow, wdoLow, changed}
+use Rattle.ticks.specs.Oscillator.{oscillatorTick}
+use Rattle.ticks.specs.Watchdog.{watchdogTick}
+use Rattle.ticks.specs.Clock.{calendarTick}
+use Rattle.ticks.specs.Tick.{cycleDevice, cycleTick, clockwork, tick}
+use Rattle.frames.specs.Frame.{nextReply, afterByte, afterSelect}
+use Rattle.ends.specs.End.{afterEnd}
+use Rattle.ends.specs.Write.{carried, cycleAfter, welAfter}
+use Rattle.acts.specs.Act.{performed}
+use Rattle.text.specs.Bytes.{agreed, leading, chosen}
+use Rattle.text.specs.Decimal.{valueFrom, textWithin, decimalText}
+use Rattle.lines.specs.Line.{nameSize, digitsText, inForm, nameOf}
+use Rattle.lines.specs.Request.{badLine, requestOf}
+use Rattle.lines.specs.Print.{answerLine}
+use Rattle.answers.specs.Answer.{lineAnswer, answerText}
+use Rattle.tape.specs.Tape.{linesFrom, answersTo, tapeAnswers}
+use Rattle.tape.specs.WholeCase.{WholeCase}
+
+pub whole-case : WholeCase
+unfolding WholeCase tapeAnswers linesFrom answersTo lineAnswer answerText answerLine badLine requestOf nameSize digitsText inForm nameOf chosen agreed leading valueFrom textWithin decimalText performed refusalOf outOfRange clockOut frameOut cycleOut powerOut bitOutside every fresh afterSelect afterByte nextReply afterEnd carried cycleAfter welAfter waitedBy tick cycleTick cycleDevice clockwork changed irqLow wdoLow oscillatorTick watchdogTick calendarTick storeUnder
+whole-case = (refl, refl)

@@ -1,0 +1,57 @@
+-- The whole case as text, and what comes before a part: the bytes of a tape, and the bytes of its answers. It is one closed statement about `tapeAnswers`, so about
+-- what `feed` and `finish` put into a buffer; not about any other tape.
+-- Assumes nothing.
+use Prim.Native.Nat.{ℕ}
+use Prim.Native.String.{String}
+use mathlib.Core.Path.{_≡_}
+use mathlib.Core.List.{List, [], _∷_, _++_}
+use Rattle.text.specs.Bytes.{bytesOf, newline}
+use Rattle.tape.specs.Tape.{tapeAnswers}
+
+-- T10, T11. The sixteen lines, and beside each its answer: the 11th shows the wait's 164 ticks, the 15th the byte that was stored.
+abbrev pub wholeCase : List (String × String)
+wholeCase =
+    ("op=part arg=2", "no=0 out=z irq=1 wdo=1")
+    ∷ ("op=select arg=0", "no=0 out=z irq=1 wdo=1")
+    ∷ ("op=byte arg=6", "no=0 out=z irq=1 wdo=1")
+    ∷ ("op=end arg=0", "no=0 out=z irq=1 wdo=1")
+    ∷ ("op=select arg=0", "no=0 out=z irq=1 wdo=1")
+    ∷ ("op=byte arg=2", "no=0 out=z irq=1 wdo=1")
+    ∷ ("op=byte arg=7", "no=0 out=z irq=1 wdo=1")
+    ∷ ("op=byte arg=18", "no=0 out=z irq=1 wdo=1")
+    ∷ ("op=byte arg=52", "no=0 out=z irq=1 wdo=1")
+    ∷ ("op=end arg=0", "no=0 out=z irq=1 wdo=1")
+    ∷ ("op=wait arg=200", "no=0 out=164 irq=1 wdo=1")
+    ∷ ("op=select arg=0", "no=0 out=z irq=1 wdo=1")
+    ∷ ("op=byte arg=3", "no=0 out=z irq=1 wdo=1")
+    ∷ ("op=byte arg=0", "no=0 out=z irq=1 wdo=1")
+    ∷ ("op=byte arg=0", "no=0 out=52 irq=1 wdo=1")
+    ∷ ("op=end arg=0", "no=0 out=z irq=1 wdo=1")
+    ∷ []
+
+-- T6, T7, T9. Before there is a part both levels show 1, whatever is asked; a part that is none leaves it so; a second part is refused.
+abbrev pub partCase : List (String × String)
+partCase =
+    ("op=select arg=0", "no=7 out=z irq=1 wdo=1")
+    ∷ ("op=part arg=5", "no=3 out=z irq=1 wdo=1")
+    ∷ ("op=up", "no=7 out=z irq=1 wdo=1")
+    ∷ ("op=part arg=4", "no=0 out=z irq=1 wdo=1")
+    ∷ ("op=part arg=4", "no=7 out=z irq=1 wdo=1")
+    ∷ ("op=up arg=0", "no=5 out=z irq=1 wdo=1")
+    ∷ []
+
+-- the tape of such rows, and the answers, a newline after each line
+abbrev pub tapeOf : List (String × String) → List ℕ
+tapeOf [] = []
+tapeOf (row ∷ rows) = bytesOf (row .0) ++ (newline ∷ tapeOf rows)
+
+abbrev pub answersOf : List (String × String) → List ℕ
+answersOf [] = []
+answersOf (row ∷ rows) = bytesOf (row .1) ++ (newline ∷ answersOf rows)
+
+-- a tape's answers are those beside its lines
+abbrev pub AnsweredAs : List (String × String) → Type 0
+AnsweredAs rows = tapeAnswers (tapeOf rows) ≡ answersOf rows
+
+unfoldable pub WholeCase : Type 0
+WholeCase = AnsweredAs wholeCase × AnsweredAs partCase

@@ -1,0 +1,11 @@
+-- `ticks::alarm::flag_raised`.
+-- Assumes nothing.
+use borrow.Author.Needs.{needs}
+use Rattle.ticks.proofs.alarm.flag_raised.Statement.{statement}
+use Rattle.ticks.proofs.alarm.flag_raised.Tie as tie
+
+pub flag-raised-spec : {M : Type 1} → statement M
+flag-raised-spec =
+    tie.close
+    (tie.spec
+    (λ c. search needs) (λ c. search needs) (λ c. search needs) (λ c. simp (c .before .if1 .taken)) (λ c. search needs))

@@ -1,0 +1,11 @@
+-- `ticks::clock::divider_tick`.
+-- Assumes nothing.
+use borrow.Author.Needs.{needs}
+use Rattle.ticks.proofs.clock.divider_tick.Statement.{statement}
+use Rattle.ticks.proofs.clock.divider_tick.Tie as tie
+
+pub divider-tick-spec : {M : Type 1} → statement M
+divider-tick-spec =
+    tie.close
+    (tie.spec
+    (λ c. search needs) (λ c. search needs) (λ c. search needs) (λ c. simp (c .before .before .if1 .taken)) (λ c. search needs))

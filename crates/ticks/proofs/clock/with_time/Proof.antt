@@ -1,0 +1,15 @@
+-- `ticks::clock::with_time`.
+-- Assumes nothing.
+use mathlib.Core.Path.{refl}
+use Rattle.ticks.specs.Clock.{withTime}
+use borrow.Author.Needs.{needs}
+use Rattle.ticks.proofs.clock.with_time.Statement.{statement}
+use Rattle.ticks.proofs.clock.with_time.Tie as tie
+
+pub with-time-spec : {M : Type 1} → statement M
+unfolding withTime
+with-time-spec =
+    tie.close
+    (tie.spec
+    (λ c. search needs) (λ c. search needs) (λ c. search needs) (λ c. search needs) (λ c. search needs) (λ c. search needs) (λ c. search needs)
+    (λ c. search needs) (λ c. refl))

@@ -1,0 +1,11 @@
+-- `ticks::lines::irq_low`.
+-- Assumes nothing.
+use mathlib.Core.Path.{refl}
+use Rattle.ticks.specs.Lines.{irqLow}
+use borrow.Author.Needs.{needs}
+use Rattle.ticks.proofs.lines.irq_low.Statement.{statement}
+use Rattle.ticks.proofs.lines.irq_low.Tie as tie
+
+pub irq-low-spec : {M : Type 1} → statement M
+unfolding irqLow
+irq-low-spec = tie.close (tie.spec (λ c. search needs) (λ c. search needs) (λ c. search needs) (λ c. refl))

@@ -1,0 +1,11 @@
+-- `ticks::lines::wdo_low`.
+-- Assumes nothing.
+use mathlib.Core.Path.{refl}
+use Rattle.ticks.specs.Lines.{wdoLow}
+use borrow.Author.Needs.{needs}
+use Rattle.ticks.proofs.lines.wdo_low.Statement.{statement}
+use Rattle.ticks.proofs.lines.wdo_low.Tie as tie
+
+pub wdo-low-spec : {M : Type 1} → statement M
+unfolding wdoLow
+wdo-low-spec = tie.close (tie.spec (λ c. search needs) (λ c. search needs) (λ c. search needs) (λ c. refl))

@@ -1,0 +1,15 @@
+-- `ticks::watchdog::watchdog_tick`.
+-- Assumes nothing.
+use Rattle.ticks.specs.Watchdog.{watchdogTick}
+use borrow.Author.Needs.{needs}
+use Rattle.ticks.proofs.watchdog.watchdog_tick.Statement.{statement}
+use Rattle.ticks.proofs.watchdog.watchdog_tick.Tie as tie
+
+pub watchdog-tick-spec : {M : Type 1} → statement M
+unfolding watchdogTick
+watchdog-tick-spec =
+    tie.close
+    (tie.spec
+    (λ c κs. search needs) (λ c. search needs) (λ c κs. search needs) (λ c κs. search needs)
+    (λ c. simp (c .counted-tick .ensures, simp (c .before .before .is-counting .ensures) at (c .before .if1 .taken), c .before .before .is-counting .ensures, c .before .before .before .before .pulse-tick .ensures))
+    (λ c. simp (simp (c .before .is-counting .ensures) at (c .if1 .left), c .before .is-counting .ensures, c .before .before .before .pulse-tick .ensures)))
