@@ -79,4 +79,3 @@ pub never-seven : (part : ℕ) (act : Act) (n : ℕ) (w : World) → performed p
 never-seven part act n w =
     subst (λ (k : ℕ). k < 7) (sym (answered-by-table part act n w))
     (table-below part act n (w .device) (length (w .eeprom)) (length (w .id)))
-

@@ -62,8 +62,7 @@ wait-valid part n w v =
       sram = ap length (s .still .sram) ∙ z .sram;
       bytes = ap (λ (l : Load). length (l .bytes)) (s .still .load) ∙ z .bytes;
       offsets = subst (λ (l : Load). l .offsets < 256) (sym (s .still .load)) (z .offsets);
-    })
-    (
+    }) (
       ap length (s .eeprom) ∙ stored-length (ended d e) _ _ (eeprom-after-length (d .load) wholeMask (w .eeprom) (d .cycle .target)),
       ap length (s .id) ∙ stored-length (ended d e) _ _ (id-after-length (d .load) wholeMask (w .id) (d .cycle .target)),
     )
@@ -81,8 +80,10 @@ accepted-valid part act arg w v e = by act (table.accepted part act arg (w .devi
   where
     d : Device
     d = w .device
+
     z : Sized d
     z = v .shaped .sized
+
     by : (act : Act) → wrongPower act (d .power) ≡ false → Valid part (accepted part arg w act .after)
     by Select p = moved-valid part w _ (v .shaped) (select-in-range part d (not-false _ p) (v .range)) (select-sized d z)
     by Byte p = moved-valid part w _ (v .shaped) (byte-in-range part arg d (not-false _ p) (v .range)) (byte-sized (bootsOf part) (topOf part) arg d z)

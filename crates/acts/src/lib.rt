@@ -108,14 +108,7 @@ fn accepted_act(
 }
 
 // One act. Part and argument are any numbers; a refused act changes nothing.
-pub fn perform(
-    part: u64,
-    act: Act,
-    arg: u64,
-    d: Device,
-    eeprom: &mut [u8],
-    id: &mut [u8],
-) -> Answer
+pub fn perform(part: u64, act: Act, arg: u64, d: Device, eeprom: &mut [u8], id: &mut [u8]) -> Answer
     ensures { λ r. ⌜ outcomeOf r (now (eeprom .exit)) (now (id .exit)) ≡ performed part act arg (world d (now (eeprom .entry)) (now (id .entry))) ⌝ }
 {
     let refusal = refusals::refusal(part, act, arg, d, eeprom.len(), id.len());

@@ -102,9 +102,9 @@ pub cut-lengths :
 unfolding cutWorld
 cut-lengths mask w = (
   pick-case (λ (m : List ℕ). length m ≡ length (w .eeprom)) (eqb (w .device .cycle .left) 0) refl
-  (eeprom-after-length (w .device .load) mask (w .eeprom) (w .device .cycle .target)),
+      (eeprom-after-length (w .device .load) mask (w .eeprom) (w .device .cycle .target)),
   pick-case (λ (m : List ℕ). length m ≡ length (w .id)) (eqb (w .device .cycle .left) 0) refl
-  (id-after-length (w .device .load) mask (w .id) (w .device .cycle .target)),
+      (id-after-length (w .device .load) mask (w .id) (w .device .cycle .target)),
 )
 
 -- W9. The count that a cut answers is the number of bytes that it changed, where every loaded byte is another than the one at its place.

@@ -160,53 +160,79 @@ module _ (part : ℕ) (d : Device) where
       let c = d .counters in
       let w = not (bootsOf part) in
       let t = not (st (d .regs)) in
-      some-holds (clockTests (bootsOf part) (d .regs) c) e
-      (λ h. divider (ltb-true dividerLast (c .divider) h),
-      (λ h. startup (omega (arith, ltb-true startupTicks (c .startup) h)),
-      (λ h. pulse (omega (arith, ltb-true longPulse (c .pulse) h)),
-      (λ h. delay (omega (arith, ltb-true delayTicks (c .delay) h)),
-      (λ h. watchdog (leb-true _ (c .watchdog) h),
-      (λ h.
-      let l = both-left (w && t) (ltb 0 (c .startup)) h in
-      stopped (ltb-true 0 (c .startup) (both-right (w && t) (ltb 0 (c .startup)) h))
-      (omega (arith, leb-false 3 part (not-true (bootsOf part) (both-left w t l))))
-      (not-true (st (d .regs)) (both-right w t l)),
-      (λ h. let m = every-miss (insideMask (d .regs)) 32 (not-true (every (insideMask (d .regs)) 32) h) in outside (m .0) (m .1) (eqb-false _ _ (m .2)),
-      tt)))))))
+      some-holds (clockTests (bootsOf part) (d .regs) c) e (
+        λ h. divider (ltb-true dividerLast (c .divider) h),
+        (
+          λ h. startup (omega (arith, ltb-true startupTicks (c .startup) h)),
+          (
+            λ h. pulse (omega (arith, ltb-true longPulse (c .pulse) h)),
+            (
+              λ h. delay (omega (arith, ltb-true delayTicks (c .delay) h)),
+              (
+                λ h. watchdog (leb-true _ (c .watchdog) h),
+                (
+                  λ h.
+                      let l = both-left (w && t) (ltb 0 (c .startup)) h in
+                      stopped (ltb-true 0 (c .startup) (both-right (w && t) (ltb 0 (c .startup)) h))
+                      (omega (arith, leb-false 3 part (not-true (bootsOf part) (both-left w t l))))
+                      (not-true (st (d .regs)) (both-right w t l)),
+                  (
+                    λ h. let m = every-miss (insideMask (d .regs)) 32 (not-true (every (insideMask (d .regs)) 32) h) in outside (m .0) (m .1) (eqb-false _ _ (m .2)),
+                    tt,
+                  ),
+                ),
+              ),
+            ),
+          ),
+        ),
+      )
 
   frame-row : frameOut (sizeOf part) (d .frame .stage) (d .load) ≡ true → RangeRow part d
   unfolding frameOut
   frame-row e =
-      some-holds (frameTests (sizeOf part) (d .frame .stage) (d .load)) e
-      (λ h. offset (ltb-true 7 (d .load .next) h),
-      (λ h. id-row (framePlace (d .frame .stage)) frame h,
-      (λ h. eeprom-row (framePlace (d .frame .stage)) frame h,
-      tt)))
+      some-holds (frameTests (sizeOf part) (d .frame .stage) (d .load)) e (
+        λ h. offset (ltb-true 7 (d .load .next) h),
+        (
+          λ h. id-row (framePlace (d .frame .stage)) frame h,
+          (
+            λ h. eeprom-row (framePlace (d .frame .stage)) frame h,
+            tt,
+          ),
+        ),
+      )
 
   cycle-row : cycleOut (sizeOf part) (d .cycle) ≡ true → RangeRow part d
   unfolding cycleOut
   cycle-row e =
-      some-holds (cycleTests (sizeOf part) (d .cycle)) e
-      (λ h. countdown (omega (arith, ltb-true cycleTicks (d .cycle .left) h)),
-      (λ h. id-row (cyclePlace (d .cycle .target)) cycle h,
-      (λ h. eeprom-row (cyclePlace (d .cycle .target)) cycle h,
-      tt)))
+      some-holds (cycleTests (sizeOf part) (d .cycle)) e (
+        λ h. countdown (omega (arith, ltb-true cycleTicks (d .cycle .left) h)),
+        (
+          λ h. id-row (cyclePlace (d .cycle .target)) cycle h,
+          (
+            λ h. eeprom-row (cyclePlace (d .cycle .target)) cycle h,
+            tt,
+          ),
+        ),
+      )
 
   power-row : powerOut (d .power) (d .frame .stage) (d .cycle) ≡ true → RangeRow part d
   unfolding powerOut
   power-row e =
       let s = d .frame .stage in
       let busy = ltb 0 (d .cycle .left) in
-      some-holds (powerTests (d .power) s (d .cycle)) e
-      (λ h.
-      unpowered (not-true (d .power) (both-left (not (d .power)) (selected s || busy) h))
-      (⊎-elim (λ l. inl (not-idle s l)) (λ l. inr (ltb-true 0 (d .cycle .left) l)) (either (selected s) busy (both-right (not (d .power)) (selected s || busy) h))),
-      (λ h.
-      let f = both-right busy (foreignToWip s) h in
-      let n = not-true (heardUnderWip (codeAt s)) (both-right (heard s) (not (heardUnderWip (codeAt s))) f) in
-      foreign (ltb-true 0 (d .cycle .left) (both-left busy (foreignToWip s) h)) (both-left (heard s) (not (heardUnderWip (codeAt s))) f)
-      (λ v. true-false (five-heard v) n),
-      tt))
+      some-holds (powerTests (d .power) s (d .cycle)) e (
+        λ h.
+            unpowered (not-true (d .power) (both-left (not (d .power)) (selected s || busy) h))
+            (⊎-elim (λ l. inl (not-idle s l)) (λ l. inr (ltb-true 0 (d .cycle .left) l)) (either (selected s) busy (both-right (not (d .power)) (selected s || busy) h))),
+        (
+          λ h.
+              let f = both-right busy (foreignToWip s) h in
+              let n = not-true (heardUnderWip (codeAt s)) (both-right (heard s) (not (heardUnderWip (codeAt s))) f) in
+              foreign (ltb-true 0 (d .cycle .left) (both-left busy (foreignToWip s) h)) (both-left (heard s) (not (heardUnderWip (codeAt s))) f)
+              (λ v. true-false (five-heard v) n),
+          tt,
+        ),
+      )
 
   some-row : outOfRange part d ≡ true → RangeRow part d
   unfolding outOfRange

@@ -59,14 +59,7 @@ fn wrong_select(act: Act, selected: bool) -> u8
 }
 
 // The order of the table: the first test that holds gives its number, else the last.
-pub fn first_refusal(
-    part: bool,
-    length: bool,
-    range: bool,
-    arg: bool,
-    power: bool,
-    last: u8,
-) -> u8
+pub fn first_refusal(part: bool, length: bool, range: bool, arg: bool, power: bool, last: u8) -> u8
     ensures { λ r. ⌜ r ≡ firstRefusal part length range arg power last ⌝ }
 {
     if part {

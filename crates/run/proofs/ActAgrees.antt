@@ -207,6 +207,7 @@ module _ (s : World) (part : ℕ) (w : World) (l : Ledger) (a : Agree s part w l
     where
       runs : 0 < w .device .cycle .left
       runs = omega (arith, a .state .cycle .left, ltb-true 0 (l .cycle .left) (both-left (running (l .cycle)) (leb (l .cycle .left) (r .used)) t))
+
       all : e .cycle .left ≡ 0
       all = omega (arith, q .left, a .state .cycle .left, leb-true (l .cycle .left) (r .used) (both-right (running (l .cycle)) (leb (l .cycle .left) (r .used)) t))
 

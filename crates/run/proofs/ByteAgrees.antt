@@ -101,9 +101,11 @@ module _ (part v : ℕ) (load : Load) (f : ledger.Frame) (known : isPart part �
 
   second-data : (c : Code) → codeOf (f .code) ≡ c → CountAgrees (Instruction c) (f .count) → Empty f → Brings c
   second-data Eeread e n q = (omega arith, tt)
-  second-data Eewrite e n q =
-      (omega arith, later-address part v f (bitAnd v (topOf part)) load (addressed-at f Eewrite e) (n .1 refl)
-      (rw (code-at f Idwrite refl Eewrite e) (page-agrees part known v)) (rw (code-at f Idwrite refl Eewrite e) (offset-agrees part known v)) q)
+  second-data Eewrite e n q = (
+    omega arith,
+    later-address part v f (bitAnd v (topOf part)) load (addressed-at f Eewrite e) (n .1 refl)
+        (rw (code-at f Idwrite refl Eewrite e) (page-agrees part known v)) (rw (code-at f Idwrite refl Eewrite e) (offset-agrees part known v)) q,
+  )
   second-data Eewrdi e n q = (omega arith, tt)
   second-data Eewren e n q = (omega arith, tt)
   second-data Srread e n q = ((omega arith, λ h. absurd (true≢false h)), later-empty part v f (write-at f Srread e) (addressed-at f Srread e) q)
@@ -111,9 +113,11 @@ module _ (part v : ℕ) (load : Load) (f : ledger.Frame) (known : isPart part �
   second-data Read e n q = (omega arith, tt)
   second-data Write e n q = (omega arith, tt)
   second-data Unlock e n q = (omega (arith, n .1 refl), later-unlock part v f (n .1 refl))
-  second-data Idwrite e n q =
-      (omega arith, later-address part v f (v % 16) load (addressed-at f Idwrite e) (n .1 refl)
-      (rw (code-at f Idwrite refl Idwrite e)) (rw (code-at f Idwrite refl Idwrite e) (omega arith)) q)
+  second-data Idwrite e n q = (
+    omega arith,
+    later-address part v f (v % 16) load (addressed-at f Idwrite e) (n .1 refl)
+        (rw (code-at f Idwrite refl Idwrite e)) (rw (code-at f Idwrite refl Idwrite e) (omega arith)) q,
+  )
   second-data Idread e n q = (omega arith, tt)
   second-data Clrwdt e n q = (omega (arith, n .1 refl), tt)
   second-data Clrram e n q = (omega (arith, n .1 refl), tt)

@@ -159,6 +159,7 @@ module _ (s : Stage) (load : Load) (f : ledger.Frame) (q : FrameAgrees s load f)
     where
       later : 1 < f .count → eqb (f .count) 1 ≡ false
       later n = ne-eqb (f .count) 1 (λ e. omega arith)
+
       by : (s : Stage) → heard s ≡ true → CountAgrees s (f .count) → stays (codeAt s) ≡ false → eqb (f .count) 1 ≡ atInstruction s
       by Idle h n m = absurd (false≢true h)
       by Opened h n m = absurd (false≢true h)
@@ -171,6 +172,7 @@ module _ (s : Stage) (load : Load) (f : ledger.Frame) (q : FrameAgrees s load f)
         where
           less : 2 < f .count → 1 < f .count
           less o = omega arith
+
           same : 1 < f .count → 1 < f .count
           same o = o
 
@@ -190,10 +192,12 @@ module _ (s : Stage) (load : Load) (f : ledger.Frame) (q : FrameAgrees s load f)
       pair (UnlockData v) n d u = inl (eq-eqb (f .count) 2 n, d)
       pair ClearWatchdog n d u = absurd (false≢true u)
       pair ClearRam n d u = absurd (false≢true u)
+
       place : (p : Place) → isCode (codeAt (Writing p)) Unlock ≡ true → ⊥
       place (EepromAt a) u = false≢true u
       place (ClockAt a) u = false≢true u
       place (IdAt a) u = false≢true u
+
       by : (s : Stage) → isCode (codeAt s) Unlock ≡ true → heard s ≡ true → CountAgrees s (f .count) → DataAgrees s load f → Byte s
       by Idle u h n d = absurd (false≢true h)
       by Opened u h n d = absurd (false≢true h)
@@ -233,12 +237,16 @@ module _ (s : Stage) (load : Load) (f : ledger.Frame) (q : FrameAgrees s load f)
     where
       first : (c : Code) → chip.isWrite c ≡ true → codeOf (f .code) ≡ c → Empty f → chip.dataFits load (Instruction c) ≡ true → TargetAgrees t load (rules.cycleOf f)
       first c w k d e = absurd (false≢true (rw w at e))
+
       eeprom : (a : EepromAddress) → codeOf (f .code) ≡ Eewrite → PageAgrees (a .0) load f → chip.dataFits load (Writing (EepromAt a)) ≡ true → WritesPage (rules.cycleOf f) eepromCycle (a .0) load
       eeprom a k d e = record { kind = rw (code-at f Eewrite refl Eewrite k); page = d .page; loaded = d .loaded }
+
       id : (a : IdAddress) → codeOf (f .code) ≡ Idwrite → PageAgrees (a .0) load f → chip.dataFits load (Writing (IdAt a)) ≡ true → WritesPage (rules.cycleOf f) idCycle (a .0) load
       id a k d e = record { kind = rw (code-at f Eewrite refl Idwrite k, code-at f Idwrite refl Idwrite k); page = d .page; loaded = d .loaded }
+
       status : (v : ℕ) → codeOf (f .code) ≡ Srwrite → PairAgrees (StatusData v) f → chip.dataFits load (Second (StatusData v)) ≡ true → WritesBits (rules.cycleOf f) (protectionNumber (protectionOf (v / 4 % 4)))
       status v k d e = record { kind = rw (code-at f Eewrite refl Srwrite k, code-at f Idwrite refl Srwrite k); loaded = d .0; bits = rw (d .1) (back v) }
+
       over : codeOf (f .code) ≡ Srwrite → Unit {0} → chip.dataFits load (Over StatusOver) ≡ true → TargetAgrees t load (rules.cycleOf f)
       over k d e = absurd (false≢true e)
 

@@ -189,6 +189,7 @@ ended-left d e = ap (λ (b : Bool). not b && eqb (e .cycle .left) 0) (zero-test 
   where
     zero-test : (k : ℕ) → eqb k 0 ≡ not (ltb 0 k)
     zero-test k = by-cases (ltb 0 k) (λ t. ne-eqb k 0 (λ q. omega (arith, ltb-true 0 k t)) ∙ ap not (sym t)) (λ t. eq-eqb k 0 (omega (arith, ltb-false 0 k t)) ∙ ap not (sym t))
+
     twice : (b : Bool) → not (not b) ≡ b
     twice true = refl
     twice false = refl

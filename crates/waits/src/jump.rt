@@ -130,8 +130,7 @@ pub fn jump(boots: bool, k: u64, d: Device) -> Device
     let target = y.target;
     let left = (fallen(y.left as u64, k) % 256) as u8;
     let divider = (grown(running, old.divider as u64, k) % 65536) as u16;
-    let watchdog = (grown(counting & (old.delay == 0), old.watchdog as u64, k)
-        % 4294967296) as u32;
+    let watchdog = (grown(counting & (old.delay == 0), old.watchdog as u64, k) % 4294967296) as u32;
     let delay = (lowered(counting, old.delay as u64, k) % 4294967296) as u32;
     let pulse = (fallen(old.pulse as u64, k) % 65536) as u16;
     let mut counters = old;
