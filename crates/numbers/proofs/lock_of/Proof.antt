@@ -1,4 +1,4 @@
--- `numbers::lock_of` meets its contract.
+-- `numbers::lock_of`: by the number; one that is no key is the last case.
 -- Assumes nothing.
 use borrow.Author.Tests.{ne-eqb}
 use Rattle.numbers.proofs.lock_of.Statement.{statement}

@@ -1,4 +1,4 @@
--- `refusals::refusal`.
+-- `refusals::refusal`: each test of the table is a call's promise, and `first_refusal` picks in the table's order.
 -- Assumes nothing.
 use Rattle.refusals.specs.Refusal.{refusalOf}
 use borrow.Author.Needs.{needs}

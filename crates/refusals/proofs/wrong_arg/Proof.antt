@@ -1,4 +1,4 @@
--- `refusals::wrong_arg`.
+-- `refusals::wrong_arg`: by the act: its limit.
 -- Assumes nothing.
 use borrow.Author.Needs.{needs}
 use Rattle.refusals.proofs.wrong_arg.Statement.{statement}

@@ -1,4 +1,4 @@
--- `refusals::wrong_length`.
+-- `refusals::wrong_length`: two lengths against the sizes of the part.
 -- Assumes nothing.
 use borrow.Author.Needs.{needs}
 use Rattle.refusals.proofs.wrong_length.Statement.{statement}

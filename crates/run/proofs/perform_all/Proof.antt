@@ -1,4 +1,4 @@
--- `run::perform_all` meets its contract: before each turn, what is left of the acts gives the same answer as all of them from the start.
+-- `run::perform_all`: before each turn, what is left of the acts gives the same answer as all of them from the start.
 -- Assumes nothing.
 use Prim.Native.Nat.{_≤_, _-_, min}
 use mathlib.Core.Path.{_≡_, refl}

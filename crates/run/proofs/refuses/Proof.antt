@@ -1,4 +1,4 @@
--- `run::refuses`.
+-- `run::refuses`: the tests of part and lengths, and the first that holds.
 -- Assumes nothing.
 use borrow.Author.Needs.{needs}
 use Rattle.run.proofs.refuses.Statement.{statement}

@@ -1,4 +1,4 @@
--- `run::run` meets its contract: refused, nothing changed; else the acts are performed from fresh, and demand 3 follows.
+-- `run::run`: refused, nothing changed; else the acts are performed from fresh, and demand 3 follows.
 -- Assumes nothing.
 use mathlib.Core.Path.{refl, sym, _∙_}
 use borrow.Author.Needs.{needs}

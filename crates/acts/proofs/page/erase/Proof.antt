@@ -1,4 +1,4 @@
--- `acts::page::erase` meets its contract: after i turns the first i bytes are FFh.
+-- `acts::page::erase`: after i turns the first i bytes are FFh.
 -- Assumes nothing.
 use mathlib.Core.Path.{_≡_, refl, ap, _∙_}
 use mathlib.Core.List.{List, _++_, append-nil}

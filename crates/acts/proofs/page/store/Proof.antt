@@ -1,4 +1,4 @@
--- `acts::page::store` meets its contract: after k turns the offsets below k are done.
+-- `acts::page::store`: after k turns the offsets below k are done.
 -- Assumes nothing.
 use mathlib.Core.Logic.{⊎-elim}
 use mathlib.Core.Path.{_≡_, refl, sym, ap, _∙_}

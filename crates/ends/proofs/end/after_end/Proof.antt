@@ -1,4 +1,4 @@
--- `ends::end::after_end`.
+-- `ends::end::after_end`: the definition's setters in the code's order, each with the promise of its call.
 -- Assumes nothing.
 use Rattle.ends.specs.End.{afterEnd}
 use borrow.Author.Needs.{needs}

@@ -1,4 +1,4 @@
--- `ends::end::cleared_by`.
+-- `ends::end::cleared_by`: the code, a frame that is not over and no bit left over, from the promises of three calls.
 -- Assumes nothing.
 use borrow.Author.Needs.{needs}
 use Rattle.ends.proofs.end.cleared_by.Statement.{statement}

@@ -1,4 +1,4 @@
--- `ends::end::count_after`.
+-- `ends::end::count_after`: the test of `cleared_by`: the watchdog's count is 0, or stays.
 -- Assumes nothing.
 use borrow.Author.Needs.{needs}
 use Rattle.ends.proofs.end.count_after.Statement.{statement}

@@ -1,4 +1,4 @@
--- `ends::end::sram_after`.
+-- `ends::end::sram_after`: the test of `cleared_by`: all 64 bytes are 0, or stay.
 -- Assumes nothing.
 use borrow.Author.Needs.{needs}
 use Rattle.ends.proofs.end.sram_after.Statement.{statement}

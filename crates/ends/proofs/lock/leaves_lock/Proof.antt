@@ -1,4 +1,4 @@
--- `ends::lock::leaves_lock`.
+-- `ends::lock::leaves_lock`: the two tests of a code are the definition's (promise of `is`).
 -- Assumes nothing.
 use borrow.Author.Needs.{needs}
 use Rattle.ends.proofs.lock.leaves_lock.Statement.{statement}

@@ -1,4 +1,4 @@
--- `ends::lock::lock_after`.
+-- `ends::lock::lock_after`: by the three tests of F35 and F36 in their order, each a call's promise.
 -- Assumes nothing.
 use borrow.Author.Needs.{needs}
 use Rattle.ends.proofs.lock.lock_after.Statement.{statement}

@@ -1,4 +1,4 @@
--- `ends::lock::unlocked_by`.
+-- `ends::lock::unlocked_by`: by the bits left over, then the byte; the second step is its call's promise.
 -- Assumes nothing.
 use borrow.Author.Tests.{eq-eqb, ne-eqb}
 use borrow.Author.Needs.{needs}

@@ -1,4 +1,4 @@
--- `ends::write::cycle_after`.
+-- `ends::write::cycle_after`: by the promise of `is_carried`; the target is that of `target_at`.
 -- Assumes nothing.
 use Rattle.ends.specs.Write.{cycleAfter}
 use borrow.Author.Needs.{needs}

@@ -1,4 +1,4 @@
--- `ends::write::data_came`.
+-- `ends::write::data_came`: the tests of the code and of a byte past the instruction, from the promises.
 -- Assumes nothing.
 use borrow.Author.Needs.{needs}
 use Rattle.ends.proofs.write.data_came.Statement.{statement}

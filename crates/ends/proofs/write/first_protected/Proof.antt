@@ -1,4 +1,4 @@
--- `ends::write::first_protected`.
+-- `ends::write::first_protected`: one answer for each protection.
 -- Assumes nothing.
 use borrow.Author.Needs.{needs}
 use Rattle.ends.proofs.write.first_protected.Statement.{statement}

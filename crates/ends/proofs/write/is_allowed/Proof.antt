@@ -1,4 +1,4 @@
--- `ends::write::is_allowed`.
+-- `ends::write::is_allowed`: an EEWRITE by its page, an IDWRITE by the lock, from the promises of both.
 -- Assumes nothing.
 use borrow.Author.Needs.{needs}
 use Rattle.ends.proofs.write.is_allowed.Statement.{statement}

@@ -1,4 +1,4 @@
--- `ends::write::is_carried`.
+-- `ends::write::is_carried`: the five conditions of a write as values; three are promises.
 -- Assumes nothing.
 use Rattle.ends.specs.Write.{carried}
 use borrow.Author.Needs.{needs}

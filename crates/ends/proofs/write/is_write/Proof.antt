@@ -1,4 +1,4 @@
--- `ends::write::is_write`.
+-- `ends::write::is_write`: two tests of a code, from their promises.
 -- Assumes nothing.
 use borrow.Author.Needs.{needs}
 use Rattle.ends.proofs.write.is_write.Statement.{statement}

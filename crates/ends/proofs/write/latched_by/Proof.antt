@@ -1,4 +1,4 @@
--- `ends::write::latched_by`.
+-- `ends::write::latched_by`: the code and a frame that ends at its instruction byte, from the promises.
 -- Assumes nothing.
 use borrow.Author.Needs.{needs}
 use Rattle.ends.proofs.write.latched_by.Statement.{statement}

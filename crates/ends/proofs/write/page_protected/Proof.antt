@@ -1,4 +1,4 @@
--- `ends::write::page_protected`.
+-- `ends::write::page_protected`: the pointer's page against the first that is guarded, from the promises.
 -- Assumes nothing.
 use borrow.Author.Needs.{needs}
 use Rattle.ends.proofs.write.page_protected.Statement.{statement}

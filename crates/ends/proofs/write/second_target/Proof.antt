@@ -1,4 +1,4 @@
--- `ends::write::second_target`.
+-- `ends::write::second_target`: by the pair; STATUS takes its bits by the promise of `protection_of`.
 -- Assumes nothing.
 use borrow.Author.Needs.{needs}
 use Rattle.ends.proofs.write.second_target.Statement.{statement}

@@ -1,4 +1,4 @@
--- `ends::write::target_at`.
+-- `ends::write::target_at`: by the stage: a page or a STATUS byte, each by its call's promise.
 -- Assumes nothing.
 use borrow.Author.Needs.{needs}
 use Rattle.ends.proofs.write.target_at.Statement.{statement}

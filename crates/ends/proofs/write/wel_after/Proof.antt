@@ -1,4 +1,4 @@
--- `ends::write::wel_after`.
+-- `ends::write::wel_after`: by the tests of F19 and F30 in their order, each a call's promise.
 -- Assumes nothing.
 use Rattle.ends.specs.Write.{welAfter}
 use borrow.Author.Needs.{needs}

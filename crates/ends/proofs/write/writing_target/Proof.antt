@@ -1,4 +1,4 @@
--- `ends::write::writing_target`.
+-- `ends::write::writing_target`: by the place.
 -- Assumes nothing.
 use borrow.Author.Needs.{needs}
 use Rattle.ends.proofs.write.writing_target.Statement.{statement}

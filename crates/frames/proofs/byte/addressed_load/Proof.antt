@@ -1,4 +1,4 @@
--- `frames::byte::addressed_load`.
+-- `frames::byte::addressed_load`: by the test of a page write: an emptied load, or the load as it was.
 -- Assumes nothing.
 use borrow.Author.Needs.{needs}
 use Rattle.frames.proofs.byte.addressed_load.Statement.{statement}

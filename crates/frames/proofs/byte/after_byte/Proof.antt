@@ -1,4 +1,4 @@
--- `frames::byte::after_byte`.
+-- `frames::byte::after_byte`: the definition's setters in the code's order, each with the promise of its call.
 -- Assumes nothing.
 use Rattle.frames.specs.Frame.{afterByte}
 use borrow.Author.Needs.{needs}

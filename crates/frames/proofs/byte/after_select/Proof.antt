@@ -1,4 +1,4 @@
--- `frames::byte::after_select`.
+-- `frames::byte::after_select`: the code is the definition.
 -- Assumes nothing.
 use mathlib.Core.Path.{refl}
 use Rattle.frames.specs.Frame.{afterSelect}

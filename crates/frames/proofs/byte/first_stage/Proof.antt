@@ -1,4 +1,4 @@
--- `frames::byte::first_stage`.
+-- `frames::byte::first_stage`: under WIP by whether the code is heard then (promise of `heard_under_wip`).
 -- Assumes nothing.
 use borrow.Author.Needs.{needs}
 use Rattle.frames.proofs.byte.first_stage.Statement.{statement}

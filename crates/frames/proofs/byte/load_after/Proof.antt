@@ -1,4 +1,4 @@
--- `frames::byte::load_after`.
+-- `frames::byte::load_after`: by the stage: an address empties the load, a data byte joins it.
 -- Assumes nothing.
 use borrow.Author.Needs.{needs}
 use Rattle.frames.proofs.byte.load_after.Statement.{statement}

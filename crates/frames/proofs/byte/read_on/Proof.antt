@@ -1,4 +1,4 @@
--- `frames::byte::read_on`.
+-- `frames::byte::read_on`: by the place, each moved by the promise of its `next`.
 -- Assumes nothing.
 use borrow.Author.Needs.{needs}
 use Rattle.frames.proofs.byte.read_on.Statement.{statement}

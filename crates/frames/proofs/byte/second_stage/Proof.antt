@@ -1,4 +1,4 @@
--- `frames::byte::second_stage`.
+-- `frames::byte::second_stage`: by the code, its place made by the promise of `taken`.
 -- Assumes nothing.
 use borrow.Author.Needs.{needs}
 use Rattle.frames.proofs.byte.second_stage.Statement.{statement}

@@ -1,4 +1,4 @@
--- `frames::byte::stage_after`.
+-- `frames::byte::stage_after`: by the stage; each arm is the promise of its call.
 -- Assumes nothing.
 use borrow.Author.Needs.{needs}
 use Rattle.frames.proofs.byte.stage_after.Statement.{statement}

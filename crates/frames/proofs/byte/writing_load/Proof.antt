@@ -1,4 +1,4 @@
--- `frames::byte::writing_load`.
+-- `frames::byte::writing_load`: by the place; a page's byte joins the load.
 -- Assumes nothing.
 use borrow.Author.Needs.{needs}
 use Rattle.frames.proofs.byte.writing_load.Statement.{statement}

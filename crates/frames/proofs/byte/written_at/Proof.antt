@@ -1,4 +1,4 @@
--- `frames::byte::written_at`.
+-- `frames::byte::written_at`: by the stage; only a byte behind a WRITE's address is written.
 -- Assumes nothing.
 use borrow.Author.Needs.{needs}
 use Rattle.frames.proofs.byte.written_at.Statement.{statement}

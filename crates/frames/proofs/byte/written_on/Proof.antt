@@ -1,4 +1,4 @@
--- `frames::byte::written_on`.
+-- `frames::byte::written_on`: by the place, each moved by the promise of its `next`.
 -- Assumes nothing.
 use borrow.Author.Needs.{needs}
 use Rattle.frames.proofs.byte.written_on.Statement.{statement}

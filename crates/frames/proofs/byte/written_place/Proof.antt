@@ -1,4 +1,4 @@
--- `frames::byte::written_place`.
+-- `frames::byte::written_place`: by the place; a clock address is written by `write_clock`.
 -- Assumes nothing.
 use borrow.Author.Needs.{needs}
 use Rattle.frames.proofs.byte.written_place.Statement.{statement}

@@ -1,4 +1,4 @@
--- `frames::reply::instruction_reply`.
+-- `frames::reply::instruction_reply`: by the code's test: STATUS, or SO off.
 -- Assumes nothing.
 use borrow.Author.Needs.{needs}
 use Rattle.frames.proofs.reply.instruction_reply.Statement.{statement}

@@ -1,4 +1,4 @@
--- `power::cut::after_cut`.
+-- `power::cut::after_cut`: the definition's setters in the code's order, from the promises of both calls.
 -- Assumes nothing.
 use Rattle.power.specs.Power.{afterCut}
 use borrow.Author.Needs.{needs}

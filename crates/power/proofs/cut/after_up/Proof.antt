@@ -1,4 +1,4 @@
--- `power::cut::after_up`.
+-- `power::cut::after_up`: the code is the definition.
 -- Assumes nothing.
 use mathlib.Core.Path.{refl}
 use Rattle.power.specs.Power.{afterUp}

@@ -1,4 +1,4 @@
--- `power::cut::clock_cut`.
+-- `power::cut::clock_cut`: by VBATEN: with it the watchdog alone is stopped, without it all is forgotten.
 -- Assumes nothing.
 use borrow.Author.Needs.{needs}
 use Rattle.power.proofs.cut.clock_cut.Statement.{statement}

@@ -1,4 +1,4 @@
--- `power::cut::cut_count`.
+-- `power::cut::cut_count`: by whether a cycle runs; the count is the promise of `stored_count`.
 -- Assumes nothing.
 use borrow.Author.Tests.{eq-eqb, ne-eqb}
 use Rattle.power.specs.Power.{cutCount}

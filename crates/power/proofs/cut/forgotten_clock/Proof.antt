@@ -1,4 +1,4 @@
--- `power::cut::forgotten_clock`.
+-- `power::cut::forgotten_clock`: registers and counters of a fresh chip, from both promises.
 -- Assumes nothing.
 use borrow.Author.Needs.{needs}
 use Rattle.power.proofs.cut.forgotten_clock.Statement.{statement}

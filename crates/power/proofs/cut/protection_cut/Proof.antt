@@ -1,4 +1,4 @@
--- `power::cut::protection_cut`.
+-- `power::cut::protection_cut`: by whether a cycle runs; what it leaves is the promise of `protection_after`.
 -- Assumes nothing.
 use borrow.Author.Tests.{eq-eqb, ne-eqb}
 use borrow.Author.Needs.{needs}

@@ -1,4 +1,4 @@
--- `refusals::range::bit_outside` meets its contract.
+-- `refusals::range::bit_outside`: the registers passed have no bit outside (`every-more`), so what is left decides (`every-none`, `every-false`).
 -- Assumes nothing.
 use mathlib.Core.Path.{_≡_}
 use mathlib.Core.Bool.{true}

@@ -1,4 +1,4 @@
--- `refusals::range::clock_out`.
+-- `refusals::range::clock_out`: the code's tests in a row are the definition's list; two are promises.
 -- Assumes nothing.
 use Rattle.refusals.specs.Range.{clockOut}
 use borrow.Author.Needs.{needs}

@@ -1,4 +1,4 @@
--- `refusals::range::cycle_out`.
+-- `refusals::range::cycle_out`: the code's tests in a row are the definition's list; the place is a promise.
 -- Assumes nothing.
 use Rattle.refusals.specs.Range.{cycleOut}
 use borrow.Author.Needs.{needs}

@@ -1,4 +1,4 @@
--- `refusals::range::frame_out`.
+-- `refusals::range::frame_out`: the code's tests in a row are the definition's list; the place is a promise.
 -- Assumes nothing.
 use Rattle.refusals.specs.Range.{frameOut}
 use borrow.Author.Needs.{needs}

@@ -1,4 +1,4 @@
--- `refusals::range::out_of_range`.
+-- `refusals::range::out_of_range`: the four subjects in a row, each by its call's promise.
 -- Assumes nothing.
 use Rattle.refusals.specs.Range.{outOfRange}
 use borrow.Author.Needs.{needs}

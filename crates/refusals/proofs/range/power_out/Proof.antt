@@ -1,4 +1,4 @@
--- `refusals::range::power_out`.
+-- `refusals::range::power_out`: the code's tests in a row are the definition's list; two are promises.
 -- Assumes nothing.
 use Rattle.refusals.specs.Range.{powerOut}
 use borrow.Author.Needs.{needs}

@@ -1,4 +1,4 @@
--- `registers::read::made_bits`.
+-- `registers::read::made_bits`: by the register's test; the bits are its calls' promises.
 -- Assumes nothing.
 use borrow.Author.Tests.{eq-eqb, ne-eqb}
 use borrow.Author.Needs.{needs}

@@ -1,4 +1,4 @@
--- `registers::read::read_clock`.
+-- `registers::read::read_clock`: by the bounds of the three parts of the block; made bits by their promise.
 -- Assumes nothing.
 use borrow.Author.Tests.{le-ltb, lt-ltb}
 use Rattle.registers.specs.Read.{readClock}

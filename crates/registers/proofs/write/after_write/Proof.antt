@@ -1,4 +1,4 @@
--- `registers::write::after_write`.
+-- `registers::write::after_write`: by the tests of the register written, and what each causes.
 -- Assumes nothing.
 use borrow.Author.Tests.{eq-eqb, ne-eqb}
 use Rattle.registers.specs.Write.{afterWrite}

@@ -1,4 +1,4 @@
--- `registers::write::delay_after`.
+-- `registers::write::delay_after`: by the test, which is the definition's.
 -- Assumes nothing.
 use Rattle.registers.proofs.write.delay_after.Statement.{statement}
 use Rattle.registers.proofs.write.delay_after.Tie as tie

@@ -1,4 +1,4 @@
--- `registers::write::write_clock`.
+-- `registers::write::write_clock`: by the bounds of the three parts of the block; a register by its promise.
 -- Assumes nothing.
 use borrow.Author.Tests.{le-ltb, lt-ltb}
 use Rattle.registers.specs.Write.{writeClock}

@@ -1,4 +1,4 @@
--- `ticks::alarm::alarm_match`.
+-- `ticks::alarm::alarm_match`: by the alarm's code; each match is a promise, all of them the promise of `all_match`.
 -- Assumes nothing.
 use borrow.Author.Tests.{eq-eqb, ne-eqb}
 use Rattle.ticks.specs.Alarm.{alarmMatch}

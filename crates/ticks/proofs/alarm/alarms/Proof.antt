@@ -1,4 +1,4 @@
--- `ticks::alarm::alarms`.
+-- `ticks::alarm::alarms`: both alarms judged first, then flag 0 and flag 1 raised in turn: four promises.
 -- Assumes nothing.
 use Rattle.ticks.specs.Alarm.{alarmed}
 use borrow.Author.Needs.{needs}

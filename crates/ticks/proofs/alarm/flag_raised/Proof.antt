@@ -1,4 +1,4 @@
--- `ticks::alarm::flag_raised`.
+-- `ticks::alarm::flag_raised`: by the test, which is the definition's.
 -- Assumes nothing.
 use borrow.Author.Needs.{needs}
 use Rattle.ticks.proofs.alarm.flag_raised.Statement.{statement}

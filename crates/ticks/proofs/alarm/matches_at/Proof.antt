@@ -1,4 +1,4 @@
--- `ticks::alarm::matches_at`.
+-- `ticks::alarm::matches_at`: five comparisons at places beside the flag, which its bounds keep among the registers.
 -- Assumes nothing.
 use mathlib.Core.Path.{refl}
 use Rattle.ticks.specs.Alarm.{matchesAt}

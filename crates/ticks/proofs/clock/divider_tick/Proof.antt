@@ -1,4 +1,4 @@
--- `ticks::clock::divider_tick`.
+-- `ticks::clock::divider_tick`: by whether it runs.
 -- Assumes nothing.
 use borrow.Author.Needs.{needs}
 use Rattle.ticks.proofs.clock.divider_tick.Statement.{statement}

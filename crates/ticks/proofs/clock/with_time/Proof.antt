@@ -1,4 +1,4 @@
--- `ticks::clock::with_time`.
+-- `ticks::clock::with_time`: eight stores are the definition's list of registers.
 -- Assumes nothing.
 use mathlib.Core.Path.{refl}
 use Rattle.ticks.specs.Clock.{withTime}

@@ -1,4 +1,4 @@
--- `ticks::lines::irq_low`.
+-- `ticks::lines::irq_low`: the tests of both alarms are the definition's.
 -- Assumes nothing.
 use mathlib.Core.Path.{refl}
 use Rattle.ticks.specs.Lines.{irqLow}

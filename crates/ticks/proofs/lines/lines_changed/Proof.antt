@@ -1,4 +1,4 @@
--- `ticks::lines::lines_changed`.
+-- `ticks::lines::lines_changed`: both lines and WIP before and after: six promises.
 -- Assumes nothing.
 use Rattle.ticks.specs.Lines.{changed}
 use borrow.Author.Needs.{needs}

@@ -1,4 +1,4 @@
--- `ticks::lines::wdo_low`.
+-- `ticks::lines::wdo_low`: the tests of pulse and alarms are the definition's.
 -- Assumes nothing.
 use mathlib.Core.Path.{refl}
 use Rattle.ticks.specs.Lines.{wdoLow}

@@ -1,4 +1,4 @@
--- `ticks::tick::clockwork_tick`.
+-- `ticks::tick::clockwork_tick`: oscillator, watchdog and clock in this order, each on what the one before left.
 -- Assumes nothing.
 use Rattle.ticks.specs.Tick.{clockwork}
 use borrow.Author.Needs.{needs}

@@ -1,4 +1,4 @@
--- `ticks::tick::cycle_ended`.
+-- `ticks::tick::cycle_ended`: the definition's setters, with the promise of `protection_after`.
 -- Assumes nothing.
 use borrow.Author.Needs.{needs}
 use Rattle.ticks.proofs.tick.cycle_ended.Statement.{statement}

@@ -1,4 +1,4 @@
--- `ticks::tick::cycle_tick`.
+-- `ticks::tick::cycle_tick`: by what is left of the cycle: none, the last tick, one less.
 -- Assumes nothing.
 use borrow.Author.Tests.{eq-eqb, ne-eqb}
 use Rattle.ticks.specs.Tick.{cycleDevice}

@@ -1,4 +1,4 @@
--- `ticks::tick::device_tick`.
+-- `ticks::tick::device_tick`: by whether the chip is alive: the cycle's tick, and the clockwork's on what it left.
 -- Assumes nothing.
 use Rattle.ticks.specs.RecordTick.{deviceTick}
 use borrow.Author.Needs.{needs}

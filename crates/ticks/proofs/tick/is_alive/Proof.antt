@@ -1,4 +1,4 @@
--- `ticks::tick::is_alive`.
+-- `ticks::tick::is_alive`: power, or VBATEN by its promise.
 -- Assumes nothing.
 use borrow.Author.Needs.{needs}
 use Rattle.ticks.proofs.tick.is_alive.Statement.{statement}

@@ -1,4 +1,4 @@
--- `ticks::watchdog::time_out`.
+-- `ticks::watchdog::time_out`: by the test of the pulse bit.
 -- Assumes nothing.
 use borrow.Author.Tests.{eq-eqb, ne-eqb}
 use borrow.Author.Needs.{needs}

@@ -1,4 +1,4 @@
--- `ticks::watchdog::watchdog_tick`.
+-- `ticks::watchdog::watchdog_tick`: the pulse first, then the count where it counts, each by its promise.
 -- Assumes nothing.
 use Rattle.ticks.specs.Watchdog.{watchdogTick}
 use borrow.Author.Needs.{needs}

@@ -1,4 +1,4 @@
--- `waits::jump::watchdog_runs`.
+-- `waits::jump::watchdog_runs`: two promises joined.
 -- Assumes nothing.
 use borrow.Author.Needs.{needs}
 use Rattle.waits.proofs.jump.watchdog_runs.Statement.{statement}

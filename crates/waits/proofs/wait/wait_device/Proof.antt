@@ -1,4 +1,4 @@
--- `waits::wait::wait_device` meets its contract: the wait from the start is the ticks passed and the wait from here, where a turn
+-- `waits::wait::wait_device`: the wait from the start is the ticks passed and the wait from here, where a turn
 -- passes over ticks in which only counts move, or is one tick.
 -- Assumes nothing.
 use mathlib.Core.Path.{_≡_, sym, _∙_}
