@@ -50,9 +50,16 @@ returns-2 c =
     (f .ensures ∙ ap (λ (n : ℕ). performed p (a .act) (a .arg) (world (a .p .device) (take n (a .eeprom .now)) (a .id .now))) (z .size .ensures))
     ∙ no _ _ (z .before .if1 .left))
 
+slice-relend-prefix-perform : tie.Need-slice-relend-prefix-perform
+slice-relend-prefix-perform c = within (c .before)
+
+slice-aggregate-perform : tie.Need-slice-aggregate-perform
+slice-aggregate-perform c = sym (length-take-le _ _ (within (c .before .before)))
+
 pub act-line-spec : {M : Type 1} → statement M
 act-line-spec =
     tie.close
-    (tie.spec (λ c κs. search needs) (λ c. search needs) returns (λ c κs. search needs) (λ c. search needs) (λ c. within (c .before))
-    (λ c. sym (length-take-le _ _ (within (c .before .before)))) (λ c κs. search needs) (λ c κs. search needs) (λ c κs. search needs)
-    (λ c. search needs) (λ c. search needs) (λ c. search needs) returns-2)
+    (tie.spec
+    (λ c κs. search needs) (λ c. search needs) returns (λ c κs. search needs) (λ c. search needs) slice-relend-prefix-perform
+    slice-aggregate-perform (λ c κs. search needs) (λ c κs. search needs) (λ c κs. search needs) (λ c. search needs) (λ c. search needs)
+    (λ c. search needs) returns-2)

@@ -51,11 +51,15 @@ returns-3 c =
     (fresh-made (a .arg) (f .fresh-device .result) (e1 .last .0) (e2 .last .0) (f .fresh-device .ensures) ee id)
     ∙ ap (shownIn o) (yes _ _ n ∙ yes _ _ (not-false (eqb (a .p .part) 0) (i .before .if1 .left)))
 
+told-requires : tie.Need-told-requires
+told-requires c κs =
+    let i = c .before .before .before .before .before .before .before .before .before .before .before in
+    omega (arith, i .before .before .before .before .before .before .pre .1)
+
 pub part-line-spec : {M : Type 1} → statement M
 part-line-spec =
     tie.close
-    (tie.spec (λ c κs. search needs) (λ c. search needs) returns (λ c κs. search needs) (λ c κs. search needs) (λ c. search needs) returns-2
-    (λ c κs. search needs) (λ c κs. search needs) (λ c κs. search needs)
-    (λ c κs. let i = c .before .before .before .before .before .before .before .before .before .before .before in
-    omega (arith, i .before .before .before .before .before .before .pre .1))
-    (λ c. search needs) (λ c. search needs) (λ c. search needs) returns-3)
+    (tie.spec
+    (λ c κs. search needs) (λ c. search needs) returns (λ c κs. search needs) (λ c κs. search needs) (λ c. search needs) returns-2
+    (λ c κs. search needs) (λ c κs. search needs) (λ c κs. search needs) told-requires (λ c. search needs) (λ c. search needs)
+    (λ c. search needs) returns-3)

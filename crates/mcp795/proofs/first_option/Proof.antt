@@ -11,17 +11,26 @@ Inv-loop count i₀ i = Unit {0}
 abbrev μ-loop : tie.MeasureT-loop
 μ-loop count i₀ i = count - i
 
+loop-holds : tie.Need-loop-holds Inv-loop μ-loop
+loop-holds c = tt
+
+option-kind-requires : tie.Need-option-kind-requires Inv-loop μ-loop
+option-kind-requires c κs = tt
+
+returns : tie.Need-returns Inv-loop μ-loop
+returns c = tt
+
+returns-2 : tie.Need-returns-2 Inv-loop μ-loop
+returns-2 c = tt
+
+loop-again : tie.Need-loop-again Inv-loop μ-loop
+loop-again c = tt
+
+returns-3 : tie.Need-returns-3 Inv-loop μ-loop
+returns-3 c = tt
+
 pub first-option-spec : {M : Type 1} → statement M
 first-option-spec =
     tie.close
     (tie.spec
-    Inv-loop
-    μ-loop
-    (λ c. tt)
-    (λ c κs. tt)
-    (λ c. tt)
-    (λ c. tt)
-    (λ c. omega arith)
-    (λ c. omega arith)
-    (λ c. tt)
-    (λ c. tt))
+    Inv-loop μ-loop loop-holds option-kind-requires returns returns-2 (λ c. omega arith) (λ c. omega arith) loop-again returns-3)

@@ -32,16 +32,14 @@ returns c =
     l .inv .2 ∙ ap (λ (n : ℕ). replicate n 255 ++ drop n m) e ∙ ap (λ (x : List ℕ). replicate (length m) 255 ++ x) (drop-length m)
     ∙ append-nil _
 
+loop-holds : tie.Need-loop-holds Inv-loop μ-loop
+loop-holds c = (omega arith, refl, refl)
+
+loop-less : tie.Need-loop-less Inv-loop μ-loop
+loop-less c = simp length-set (omega arith)
+
+same-length : tie.Need-same-length Inv-loop μ-loop
+same-length c = c .before .loop .inv .1
+
 pub erase-spec : {M : Type 1} → statement M
-erase-spec =
-    tie.close
-    (tie.spec
-    Inv-loop
-    μ-loop
-    (λ c. (omega arith, refl, refl))
-    (λ c. omega arith)
-    (λ c. omega arith)
-    (λ c. simp length-set (omega arith))
-    loop-again
-    (λ c. c .before .loop .inv .1)
-    returns)
+erase-spec = tie.close (tie.spec Inv-loop μ-loop loop-holds (λ c. omega arith) (λ c. omega arith) loop-less loop-again same-length returns)

@@ -5,10 +5,10 @@ use borrow.Author.Needs.{needs}
 use Rattle.ends.proofs.write.is_carried.Statement.{statement}
 use Rattle.ends.proofs.write.is_carried.Tie as tie
 
+returns : tie.Need-returns
+unfolding carried
+returns c = simp (c .before .is-allowed .ensures, c .before .before .is-over .ensures, c .before .before .before .data-came .ensures)
+
 pub is-carried-spec : {M : Type 1} → statement M
 unfolding carried
-is-carried-spec =
-    tie.close
-    (tie.spec
-    (λ c κs. search needs) (λ c κs. search needs) (λ c κs. search needs)
-    (λ c. simp (c .before .is-allowed .ensures, c .before .before .is-over .ensures, c .before .before .before .data-came .ensures)))
+is-carried-spec = tie.close (tie.spec (λ c κs. search needs) (λ c κs. search needs) (λ c κs. search needs) returns)

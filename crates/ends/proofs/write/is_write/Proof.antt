@@ -4,5 +4,8 @@ use borrow.Author.Needs.{needs}
 use Rattle.ends.proofs.write.is_write.Statement.{statement}
 use Rattle.ends.proofs.write.is_write.Tie as tie
 
+returns : tie.Need-returns
+returns c = simp (c .is .ensures, c .before .writes-page .ensures)
+
 pub is-write-spec : {M : Type 1} → statement M
-is-write-spec = tie.close (tie.spec (λ c κs. search needs) (λ c κs. search needs) (λ c. simp (c .is .ensures, c .before .writes-page .ensures)))
+is-write-spec = tie.close (tie.spec (λ c κs. search needs) (λ c κs. search needs) returns)

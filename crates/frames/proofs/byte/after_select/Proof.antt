@@ -5,6 +5,9 @@ use Rattle.frames.specs.Frame.{afterSelect}
 use Rattle.frames.proofs.byte.after_select.Statement.{statement}
 use Rattle.frames.proofs.byte.after_select.Tie as tie
 
-pub after-select-spec : {M : Type 1} → statement M
+returns : tie.Need-returns
 unfolding afterSelect
-after-select-spec = tie.close (tie.spec (λ c. refl))
+returns c = refl
+
+pub after-select-spec : {M : Type 1} → statement M
+after-select-spec = tie.close (tie.spec returns)

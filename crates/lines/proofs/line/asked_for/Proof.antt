@@ -4,8 +4,11 @@ use borrow.Author.Needs.{needs}
 use Rattle.lines.proofs.line.asked_for.Statement.{statement}
 use Rattle.lines.proofs.line.asked_for.Tie as tie
 
+returns : tie.Need-returns
+returns c = simp (c .enum-told .given .1)
+
+returns-2 : tie.Need-returns-2
+returns-2 c = simp (c .before .name .given .1)
+
 pub asked-for-spec : {M : Type 1} → statement M
-asked-for-spec =
-    tie.close
-    (tie.spec (λ c. search needs) (λ c. search needs) (λ c. search needs) (λ c. simp (c .enum-told .given .1)) (λ c. simp (c .before .name .given .1))
-    (λ c. search needs))
+asked-for-spec = tie.close (tie.spec (λ c. search needs) (λ c. search needs) (λ c. search needs) returns returns-2 (λ c. search needs))

@@ -4,7 +4,8 @@ use borrow.Author.Needs.{needs}
 use Rattle.lines.proofs.line.bad_digits.Statement.{statement}
 use Rattle.lines.proofs.line.bad_digits.Tie as tie
 
+returns : tie.Need-returns
+returns c = simp (c .needless-zero .ensures)
+
 pub bad-digits-spec : {M : Type 1} → statement M
-bad-digits-spec =
-    tie.close
-    (tie.spec (λ c κs. search needs) (λ c. simp (c .needless-zero .ensures)))
+bad-digits-spec = tie.close (tie.spec (λ c κs. search needs) returns)

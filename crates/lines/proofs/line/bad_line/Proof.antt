@@ -5,13 +5,9 @@ use Rattle.lines.specs.Request.{badLine}
 use Rattle.lines.proofs.line.bad_line.Statement.{statement}
 use Rattle.lines.proofs.line.bad_line.Tie as tie
 
-pub bad-line-spec : {M : Type 1} → statement M
+returns : tie.Need-returns
 unfolding badLine
-bad-line-spec =
-    tie.close
-    (tie.spec (λ c κs. search needs) (λ c κs. search needs) (λ c κs. search needs) (λ c κs. search needs) (λ c κs. search needs)
-    (λ c κs. search needs)
-    (λ c.
+returns c =
     let b = c .before .before in
     simp (
       c .bad-digits .ensures,
@@ -20,4 +16,12 @@ bad-line-spec =
       b .before .name-of .ensures,
       b .before .before .name-text .ensures,
       b .before .before .before .in-form .ensures,
-    )))
+    )
+
+pub bad-line-spec : {M : Type 1} → statement M
+unfolding badLine
+bad-line-spec =
+    tie.close
+    (tie.spec
+    (λ c κs. search needs) (λ c κs. search needs) (λ c κs. search needs) (λ c κs. search needs) (λ c κs. search needs)
+    (λ c κs. search needs) returns)

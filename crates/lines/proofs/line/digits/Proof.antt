@@ -5,8 +5,10 @@ use Rattle.lines.specs.Line.{digitsText}
 use Rattle.lines.proofs.line.digits.Statement.{statement}
 use Rattle.lines.proofs.line.digits.Tie as tie
 
+returns : tie.Need-returns
+unfolding digitsText
+returns c = simp (c .rest .ensures, c .before .after-name .ensures)
+
 pub digits-spec : {M : Type 1} → statement M
 unfolding digitsText
-digits-spec =
-    tie.close
-    (tie.spec (λ c κs. search needs) (λ c κs. search needs) (λ c. simp (c .rest .ensures, c .before .after-name .ensures)))
+digits-spec = tie.close (tie.spec (λ c κs. search needs) (λ c κs. search needs) returns)

@@ -5,13 +5,9 @@ use Rattle.lines.specs.Line.{inForm}
 use Rattle.lines.proofs.line.in_form.Statement.{statement}
 use Rattle.lines.proofs.line.in_form.Tie as tie
 
-pub in-form-spec : {M : Type 1} → statement M
+returns : tie.Need-returns
 unfolding inForm
-in-form-spec =
-    tie.close
-    (tie.spec (λ c. search needs) (λ c κs. search needs) (λ c κs. search needs) (λ c. search needs) (λ c κs. search needs) (λ c κs. search needs)
-    (λ c κs. search needs) (λ c κs. search needs)
-    (λ c.
+returns c =
     let b = c .before .before in
     simp (
       c .leading-of .ensures,
@@ -20,4 +16,12 @@ in-form-spec =
       b .before .after-name .ensures,
       b .before .before .before .name-size .ensures,
       b .before .before .before .before .agreement .ensures,
-    )))
+    )
+
+pub in-form-spec : {M : Type 1} → statement M
+unfolding inForm
+in-form-spec =
+    tie.close
+    (tie.spec
+    (λ c. search needs) (λ c κs. search needs) (λ c κs. search needs) (λ c. search needs) (λ c κs. search needs) (λ c κs. search needs)
+    (λ c κs. search needs) (λ c κs. search needs) returns)

@@ -6,14 +6,9 @@ use Rattle.lines.specs.Line.{nameOf}
 use Rattle.lines.proofs.line.name_of.Statement.{statement}
 use Rattle.lines.proofs.line.name_of.Tie as tie
 
-pub name-of-spec : {M : Type 1} → statement M
+returns : tie.Need-returns
 unfolding nameOf chosen
-name-of-spec =
-    tie.close
-    (tie.spec (λ c. search needs) (λ c κs. search needs) (λ c. search needs) (λ c κs. search needs) (λ c. search needs) (λ c κs. search needs)
-    (λ c. search needs) (λ c κs. search needs) (λ c. search needs) (λ c κs. search needs) (λ c. search needs) (λ c κs. search needs)
-    (λ c. search needs) (λ c κs. search needs)
-    (λ c.
+returns c =
     let w5 = c .before .before .before .before in
     let w3 = w5 .before .before .before .before in
     let w1 = w3 .before .before .before .before in
@@ -25,4 +20,13 @@ name-of-spec =
       w3 .choose3 .ensures,
       w3 .before .before .choose2 .ensures,
       w1 .choose .ensures,
-    )))
+    )
+
+pub name-of-spec : {M : Type 1} → statement M
+unfolding nameOf chosen
+name-of-spec =
+    tie.close
+    (tie.spec
+    (λ c. search needs) (λ c κs. search needs) (λ c. search needs) (λ c κs. search needs) (λ c. search needs) (λ c κs. search needs)
+    (λ c. search needs) (λ c κs. search needs) (λ c. search needs) (λ c κs. search needs) (λ c. search needs) (λ c κs. search needs)
+    (λ c. search needs) (λ c κs. search needs) returns)

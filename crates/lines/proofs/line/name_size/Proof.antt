@@ -5,8 +5,10 @@ use Rattle.lines.specs.Line.{nameSize}
 use Rattle.lines.proofs.line.name_size.Statement.{statement}
 use Rattle.lines.proofs.line.name_size.Tie as tie
 
+returns : tie.Need-returns
+unfolding nameSize
+returns c = simp (c .leading-of .ensures, c .before .rest .ensures)
+
 pub name-size-spec : {M : Type 1} → statement M
 unfolding nameSize
-name-size-spec =
-    tie.close
-    (tie.spec (λ c κs. search needs) (λ c κs. search needs) (λ c. simp (c .leading-of .ensures, c .before .rest .ensures)))
+name-size-spec = tie.close (tie.spec (λ c κs. search needs) (λ c κs. search needs) returns)

@@ -25,9 +25,14 @@ returns-2 c =
     )
     (no _ _ f)
 
+returns : tie.Need-returns
+unfolding requestOf
+returns c = yes _ _ (sym (c .before .bad-line .ensures) ∙ c .if1 .taken)
+
 pub request-spec : {M : Type 1} → statement M
 unfolding requestOf
 request-spec =
     tie.close
-    (tie.spec (λ c κs. search needs) (λ c. yes _ _ (sym (c .before .bad-line .ensures) ∙ c .if1 .taken)) (λ c κs. search needs) (λ c κs. search needs)
-    (λ c κs. search needs) (λ c κs. search needs) (λ c κs. search needs) returns-2)
+    (tie.spec
+    (λ c κs. search needs) returns (λ c κs. search needs) (λ c κs. search needs) (λ c κs. search needs) (λ c κs. search needs)
+    (λ c κs. search needs) returns-2)

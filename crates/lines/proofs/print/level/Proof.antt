@@ -3,7 +3,11 @@
 use Rattle.lines.proofs.print.level.Statement.{statement}
 use Rattle.lines.proofs.print.level.Tie as tie
 
+returns : tie.Need-returns
+returns c = simp (c .if1 .taken)
+
+returns-2 : tie.Need-returns-2
+returns-2 c = simp (c .if1 .left)
+
 pub level-spec : {M : Type 1} → statement M
-level-spec =
-    tie.close
-    (tie.spec (λ c. simp (c .if1 .taken)) (λ c. simp (c .if1 .left)))
+level-spec = tie.close (tie.spec returns returns-2)

@@ -18,12 +18,20 @@ done c = not-false (eqb (c .before .args .number) 0) (c .if1 .left)
 uncounted : (c : tie.Else2) → showsCount (c .before .before .before .args .act) ≡ false
 uncounted c = sym (c .before .shows-count .ensures) ∙ c .if2 .left
 
+returns : tie.Need-returns
+returns c = no _ _ (not-true (eqb (c .before .args .number) 0) (c .if1 .taken))
+
+returns-2 : tie.Need-returns-2
+returns-2 c = simp (done (c .before .before), sym (c .before .shows-count .ensures) ∙ c .if2 .taken)
+
+returns-3 : tie.Need-returns-3
+returns-3 c = simp (done (c .before .before .before .before), uncounted (c .before .before), c .enum-told .given .1)
+
+returns-4 : tie.Need-returns-4
+returns-4 c = simp (done (c .before .before .before .before .before), uncounted (c .before .before .before), c .before .reply .given .1)
+
 pub out-of-spec : {M : Type 1} → statement M
 out-of-spec =
     tie.close
-    (tie.spec (λ c. no _ _ (not-true (eqb (c .before .args .number) 0) (c .if1 .taken))) (λ c κs. search needs)
-    (λ c. simp (done (c .before .before), sym (c .before .shows-count .ensures) ∙ c .if2 .taken))
-    (λ c. search needs) (λ c. search needs)
-    (λ c. simp (done (c .before .before .before .before), uncounted (c .before .before), c .enum-told .given .1))
-    (λ c. search needs)
-    (λ c. simp (done (c .before .before .before .before .before), uncounted (c .before .before .before), c .before .reply .given .1)))
+    (tie.spec
+    returns (λ c κs. search needs) returns-2 (λ c. search needs) (λ c. search needs) returns-3 (λ c. search needs) returns-4)

@@ -55,10 +55,18 @@ returns c =
     (f3 .put-field3 .ensures .0)) (f4 .put-field4 .ensures .0)) (c .before .before .put-byte .ensures)
     ∙ simp (f3 .before .before .level .ensures, f4 .before .before .level2 .ensures)
 
+put-field-requires-3 : tie.Need-put-field-requires-3
+put-field-requires-3 c κs = omega (arith, room-2 (c .before .before .before .before .before))
+
+put-field-requires-4 : tie.Need-put-field-requires-4
+put-field-requires-4 c κs = omega (arith, room-3 (c .before .before .before .before .before))
+
+put-byte-requires : tie.Need-put-byte-requires
+put-byte-requires c κs = omega (arith, room-4 (c .before .before .before))
+
 pub put-answer-spec : {M : Type 1} → statement M
 put-answer-spec =
     tie.close
-    (tie.spec (λ c. search needs) (λ c κs. search needs) (λ c. search needs) (λ c κs. search needs) (λ c. search needs) (λ c κs. search needs)
-    (λ c κs. omega (arith, room-2 (c .before .before .before .before .before))) (λ c. search needs) (λ c κs. search needs)
-    (λ c κs. omega (arith, room-3 (c .before .before .before .before .before)))
-    (λ c κs. omega (arith, room-4 (c .before .before .before))) (λ c. search needs) returns)
+    (tie.spec
+    (λ c. search needs) (λ c κs. search needs) (λ c. search needs) (λ c κs. search needs) (λ c. search needs) (λ c κs. search needs)
+    put-field-requires-3 (λ c. search needs) (λ c κs. search needs) put-field-requires-4 put-byte-requires (λ c. search needs) returns)

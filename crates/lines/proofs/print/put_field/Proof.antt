@@ -44,9 +44,12 @@ returns-2 c =
     field-put (buffer (a .into .now) (a .at)) (a .word .now) (a .out) (Value n) (m .out .given .1) (decimal-places 19 n (omega arith))
     (m .before .before .before .before .put .ensures) (c .before .before .put-decimal .ensures)
 
+put-byte-requires : tie.Need-put-byte-requires
+put-byte-requires c κs = omega (arith, word-room (c .before .before .before .before .before))
+
 pub put-field-spec : {M : Type 1} → statement M
 put-field-spec =
     tie.close
-    (tie.spec (λ c κs. search needs) (λ c. search needs) (λ c. search needs)
-    (λ c κs. omega (arith, word-room (c .before .before .before .before .before))) (λ c. search needs) returns put-decimal-requires
+    (tie.spec
+    (λ c κs. search needs) (λ c. search needs) (λ c. search needs) put-byte-requires (λ c. search needs) returns put-decimal-requires
     (λ c. search needs) returns-2)

@@ -5,9 +5,10 @@ use borrow.Author.Needs.{needs}
 use Rattle.power.proofs.cut.after_cut.Statement.{statement}
 use Rattle.power.proofs.cut.after_cut.Tie as tie
 
+returns : tie.Need-returns
+unfolding afterCut
+returns c = simp (c .clock-cut .ensures, c .before .before .protection-cut .ensures)
+
 pub after-cut-spec : {M : Type 1} → statement M
 unfolding afterCut
-after-cut-spec =
-    tie.close
-    (tie.spec
-    (λ c κs. search needs) (λ c κs. search needs) (λ c. simp (c .clock-cut .ensures, c .before .before .protection-cut .ensures)))
+after-cut-spec = tie.close (tie.spec (λ c κs. search needs) (λ c κs. search needs) returns)

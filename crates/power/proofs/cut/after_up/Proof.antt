@@ -5,6 +5,9 @@ use Rattle.power.specs.Power.{afterUp}
 use Rattle.power.proofs.cut.after_up.Statement.{statement}
 use Rattle.power.proofs.cut.after_up.Tie as tie
 
-pub after-up-spec : {M : Type 1} → statement M
+returns : tie.Need-returns
 unfolding afterUp
-after-up-spec = tie.close (tie.spec (λ c. refl))
+returns c = refl
+
+pub after-up-spec : {M : Type 1} → statement M
+after-up-spec = tie.close (tie.spec returns)

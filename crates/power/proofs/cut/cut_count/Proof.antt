@@ -6,9 +6,14 @@ use borrow.Author.Needs.{needs}
 use Rattle.power.proofs.cut.cut_count.Statement.{statement}
 use Rattle.power.proofs.cut.cut_count.Tie as tie
 
+returns : tie.Need-returns
+unfolding cutCount
+returns c = simp (eq-eqb _ _ (c .if1 .taken))
+
+returns-2 : tie.Need-returns-2
+unfolding cutCount
+returns-2 c = simp (c .stored-count .ensures, ne-eqb _ _ (c .before .if1 .left))
+
 pub cut-count-spec : {M : Type 1} → statement M
 unfolding cutCount
-cut-count-spec =
-    tie.close
-    (tie.spec
-    (λ c. simp (eq-eqb _ _ (c .if1 .taken))) (λ c κs. search needs) (λ c. simp (c .stored-count .ensures, ne-eqb _ _ (c .before .if1 .left))))
+cut-count-spec = tie.close (tie.spec returns (λ c κs. search needs) returns-2)

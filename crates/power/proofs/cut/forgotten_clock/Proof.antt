@@ -4,8 +4,8 @@ use borrow.Author.Needs.{needs}
 use Rattle.power.proofs.cut.forgotten_clock.Statement.{statement}
 use Rattle.power.proofs.cut.forgotten_clock.Tie as tie
 
+returns : tie.Need-returns
+returns c = simp (c .fresh-counters .ensures, c .before .fresh-regs .ensures)
+
 pub forgotten-clock-spec : {M : Type 1} → statement M
-forgotten-clock-spec =
-    tie.close
-    (tie.spec
-    (λ c κs. search needs) (λ c κs. search needs) (λ c. simp (c .fresh-counters .ensures, c .before .fresh-regs .ensures)))
+forgotten-clock-spec = tie.close (tie.spec (λ c κs. search needs) (λ c κs. search needs) returns)

@@ -5,10 +5,10 @@ use borrow.Author.Needs.{needs}
 use Rattle.refusals.proofs.range.frame_out.Statement.{statement}
 use Rattle.refusals.proofs.range.frame_out.Tie as tie
 
+returns : tie.Need-returns
+unfolding frameOut
+returns c = simp (c .before .eeprom-pointer .ensures, c .before .before .id-pointer .ensures, c .before .before .before .frame-place .ensures)
+
 pub frame-out-spec : {M : Type 1} → statement M
 unfolding frameOut
-frame-out-spec =
-    tie.close
-    (tie.spec
-    (λ c κs. search needs) (λ c κs. search needs) (λ c κs. search needs) (λ c. search needs)
-    (λ c. simp (c .before .eeprom-pointer .ensures, c .before .before .id-pointer .ensures, c .before .before .before .frame-place .ensures)))
+frame-out-spec = tie.close (tie.spec (λ c κs. search needs) (λ c κs. search needs) (λ c κs. search needs) (λ c. search needs) returns)

@@ -5,10 +5,14 @@ use borrow.Author.Needs.{needs}
 use Rattle.refusals.proofs.range.out_of_range.Statement.{statement}
 use Rattle.refusals.proofs.range.out_of_range.Tie as tie
 
+returns : tie.Need-returns
+unfolding outOfRange
+returns c = simp (c .power-out .ensures, c .before .cycle-out .ensures, c .before .before .frame-out .ensures, c .before .before .before .clock-out .ensures, c .before .before .before .before .before .before .before .before .before .boots .ensures, c .before .before .before .before .before .before .before .before .before .before .size .ensures)
+
 pub out-of-range-spec : {M : Type 1} → statement M
 unfolding outOfRange
 out-of-range-spec =
     tie.close
     (tie.spec
-    (λ c κs. search needs) (λ c κs. search needs) (λ c κs. search needs) (λ c κs. search needs) (λ c κs. search needs) (λ c κs. search needs)
-    (λ c. simp (c .power-out .ensures, c .before .cycle-out .ensures, c .before .before .frame-out .ensures, c .before .before .before .clock-out .ensures, c .before .before .before .before .before .before .before .before .before .boots .ensures, c .before .before .before .before .before .before .before .before .before .before .size .ensures)))
+    (λ c κs. search needs) (λ c κs. search needs) (λ c κs. search needs) (λ c κs. search needs) (λ c κs. search needs)
+    (λ c κs. search needs) returns)

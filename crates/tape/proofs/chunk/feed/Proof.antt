@@ -24,9 +24,14 @@ returns c =
     ∙ ap (λ (x : Bool). feedInto x (stateOf (a .tape) (a .line .now) (a .eeprom .now) (a .id .now)) (a .chunk .now) (buffer (a .into .now) (a .at)))
     (sym (t .if1 .taken) ∙ t .before .fit .ensures)
 
+returns-2 : tie.Need-returns-2
+unfolding feedInto
+returns-2 c = no _ _ (sym (c .before .fit .ensures) ∙ c .if1 .left)
+
 pub feed-spec : {M : Type 1} → statement M
 unfolding feedInto
 feed-spec =
     tie.close
-    (tie.spec (λ c κs. search needs) feed-lines-requires (λ c. search needs) (λ c. search needs) (λ c. search needs) (λ c. search needs) returns
-    (λ c. no _ _ (sym (c .before .fit .ensures) ∙ c .if1 .left)))
+    (tie.spec
+    (λ c κs. search needs) feed-lines-requires (λ c. search needs) (λ c. search needs) (λ c. search needs) (λ c. search needs) returns
+    returns-2)

@@ -130,22 +130,51 @@ returns-2 c =
     ap (λ (f : Feed). takenBy f (l .line) (l .eeprom) (l .id) (l .into)) (c .feed-of2 .ensures)
     ∙ sofar-done _ _ _ (l .from) _ _ (c .before .loop-test .left) (l .inv .1)
 
+add-to-head-requires : tie.Need-add-to-head-requires Inv-loop μ-loop
+add-to-head-requires c κs = headed (c .before .before .before .before .before .before .before)
+
+add-feed-of : tie.Need-add-feed-of Inv-loop μ-loop
+add-feed-of c = omega (arith, piece-in (c .before .before .before .before .before .before .before))
+
+same-length : tie.Need-same-length Inv-loop μ-loop
+same-length c =
+    let l = c .before .before .before .before .before .before .before .before .before .before .before .loop in
+    c .before .before .before .add-to-head .kept .1 .0 ∙ l .inv .0 .line
+
+same-length-2 : tie.Need-same-length-2 Inv-loop μ-loop
+same-length-2 c = c .before .before .before .before .before .before .before .before .before .before .before .loop .inv .0 .eeprom
+
+same-length-3 : tie.Need-same-length-3 Inv-loop μ-loop
+same-length-3 c = c .before .before .before .before .before .before .before .before .before .before .before .loop .inv .0 .id
+
+same-length-4 : tie.Need-same-length-4 Inv-loop μ-loop
+same-length-4 c = c .before .before .before .before .before .before .before .before .before .before .before .loop .inv .0 .into
+
+add-from : tie.Need-add-from Inv-loop μ-loop
+add-from c = omega (arith, next-in (c .before .before .before .before .before .before .before .before .before .before .before .before .before))
+
+add-from-2 : tie.Need-add-from-2 Inv-loop μ-loop
+add-from-2 c = omega (arith, next-in (c .before .before .before .before .before .before .before .before .before .before .before .before .before))
+
+loop-less : tie.Need-loop-less Inv-loop μ-loop
+loop-less c = omega (arith, next-in (c .before .before .before .before .before .before .before .before .before .before .before .before .before))
+
+same-length-5 : tie.Need-same-length-5 Inv-loop μ-loop
+same-length-5 c = c .before .before .loop .inv .0 .line
+
+same-length-6 : tie.Need-same-length-6 Inv-loop μ-loop
+same-length-6 c = c .before .before .loop .inv .0 .eeprom
+
+same-length-7 : tie.Need-same-length-7 Inv-loop μ-loop
+same-length-7 c = c .before .before .loop .inv .0 .id
+
+same-length-8 : tie.Need-same-length-8 Inv-loop μ-loop
+same-length-8 c = c .before .before .loop .inv .0 .into
+
 pub feed-lines-spec : {M : Type 1} → statement M
 feed-lines-spec =
     tie.close
-    (tie.spec Inv-loop μ-loop loop-holds (λ c κs. search needs) (λ c κs. search needs) (λ c κs. search needs) (λ c κs. search needs)
-    (λ c κs. headed (c .before .before .before .before .before .before .before))
-    (λ c. omega (arith, piece-in (c .before .before .before .before .before .before .before)))
-    (λ c κs. search needs)
-    (λ c. let l = c .before .before .before .before .before .before .before .before .before .before .before .loop in
-    c .before .before .before .add-to-head .kept .1 .0 ∙ l .inv .0 .line)
-    (λ c. c .before .before .before .before .before .before .before .before .before .before .before .loop .inv .0 .eeprom)
-    (λ c. c .before .before .before .before .before .before .before .before .before .before .before .loop .inv .0 .id)
-    (λ c. c .before .before .before .before .before .before .before .before .before .before .before .loop .inv .0 .into)
-    returns end-line-requires
-    (λ c. omega (arith, next-in (c .before .before .before .before .before .before .before .before .before .before .before .before .before)))
-    (λ c. omega (arith, next-in (c .before .before .before .before .before .before .before .before .before .before .before .before .before)))
-    (λ c. omega (arith, next-in (c .before .before .before .before .before .before .before .before .before .before .before .before .before)))
-    loop-again (λ c κs. search needs)
-    (λ c. c .before .before .loop .inv .0 .line) (λ c. c .before .before .loop .inv .0 .eeprom) (λ c. c .before .before .loop .inv .0 .id)
-    (λ c. c .before .before .loop .inv .0 .into) returns-2)
+    (tie.spec
+    Inv-loop μ-loop loop-holds (λ c κs. search needs) (λ c κs. search needs) (λ c κs. search needs) (λ c κs. search needs)
+    add-to-head-requires add-feed-of (λ c κs. search needs) same-length same-length-2 same-length-3 same-length-4 returns end-line-requires
+    add-from add-from-2 loop-less loop-again (λ c κs. search needs) same-length-5 same-length-6 same-length-7 same-length-8 returns-2)

@@ -5,6 +5,9 @@ use Rattle.tape.specs.Tape.{buffersFit}
 use Rattle.tape.proofs.chunk.fit.Statement.{statement}
 use Rattle.tape.proofs.chunk.fit.Tie as tie
 
-pub fit-spec : {M : Type 1} → statement M
+returns : tie.Need-returns
 unfolding buffersFit
-fit-spec = tie.close (tie.spec (λ c. refl))
+returns c = refl
+
+pub fit-spec : {M : Type 1} → statement M
+fit-spec = tie.close (tie.spec returns)

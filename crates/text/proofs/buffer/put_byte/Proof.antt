@@ -5,7 +5,8 @@ use borrow.Author.Needs.{needs}
 use Rattle.text.proofs.buffer.put_byte.Statement.{statement}
 use Rattle.text.proofs.buffer.put_byte.Tie as tie
 
+returns : tie.Need-returns
+returns c = append-byte (c .args .into .now) (c .args .at) (c .args .b)
+
 pub put-byte-spec : {M : Type 1} → statement M
-put-byte-spec =
-    tie.close
-    (tie.spec (λ c. search needs) (λ c. search needs) (λ c. search needs) (λ c. append-byte (c .args .into .now) (c .args .at) (c .args .b)))
+put-byte-spec = tie.close (tie.spec (λ c. search needs) (λ c. search needs) (λ c. search needs) returns)

@@ -35,8 +35,12 @@ returns-3 c =
     let a = c .before .before .args in
     sym (agreed-whole (a .word .now) (a .s .now) (c .before .loop .i) (omega arith)) ∙ c .before .loop .inv .1
 
+loop-holds : tie.Need-loop-holds Inv-loop μ-loop
+loop-holds c = (omega arith, omega arith)
+
 pub agreement-spec : {M : Type 1} → statement M
 agreement-spec =
     tie.close
-    (tie.spec Inv-loop μ-loop (λ c. (omega arith, omega arith)) returns (λ c. omega arith) (λ c. omega arith) returns-2 (λ c. omega arith)
-    (λ c. omega arith) loop-again returns-3)
+    (tie.spec
+    Inv-loop μ-loop loop-holds returns (λ c. omega arith) (λ c. omega arith) returns-2 (λ c. omega arith) (λ c. omega arith) loop-again
+    returns-3)

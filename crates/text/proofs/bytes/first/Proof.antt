@@ -7,7 +7,11 @@ use borrow.Author.Needs.{needs}
 use Rattle.text.proofs.bytes.first.Statement.{statement}
 use Rattle.text.proofs.bytes.first.Tie as tie
 
+returns : tie.Need-returns
+returns c = sym (take-all (c .before .args .n) _ (omega arith))
+
+slice-aggregate-result : tie.Need-slice-aggregate-result
+slice-aggregate-result c = sym (length-take-le _ _ (omega arith))
+
 pub first-spec : {M : Type 1} → statement M
-first-spec =
-    tie.close
-    (tie.spec (λ c. sym (take-all (c .before .args .n) _ (omega arith))) (λ c. sym (length-take-le _ _ (omega arith))) (λ c. search needs))
+first-spec = tie.close (tie.spec returns slice-aggregate-result (λ c. search needs))

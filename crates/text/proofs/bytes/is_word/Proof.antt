@@ -4,5 +4,8 @@ use borrow.Author.Needs.{needs}
 use Rattle.text.proofs.bytes.is_word.Statement.{statement}
 use Rattle.text.proofs.bytes.is_word.Tie as tie
 
+returns : tie.Need-returns
+returns c = simp (c .agreement .ensures)
+
 pub is-word-spec : {M : Type 1} → statement M
-is-word-spec = tie.close (tie.spec (λ c κs. search needs) (λ c. simp (c .agreement .ensures)))
+is-word-spec = tie.close (tie.spec (λ c κs. search needs) returns)

@@ -36,8 +36,11 @@ returns-2 c =
     let a = c .before .before .before .args in
     sym (leading-whole (ofKind (a .kind)) (a .s .now) (c .before .loop .i) (omega arith)) ∙ c .before .loop .inv .1
 
+loop-holds : tie.Need-loop-holds Inv-loop μ-loop
+loop-holds c = (omega arith, omega arith)
+
 pub leading-of-spec : {M : Type 1} → statement M
 leading-of-spec =
     tie.close
-    (tie.spec Inv-loop μ-loop (λ c. (omega arith, omega arith)) (λ c. omega arith) (λ c κs. search needs) returns (λ c. omega arith)
-    (λ c. omega arith) loop-again returns-2)
+    (tie.spec
+    Inv-loop μ-loop loop-holds (λ c. omega arith) (λ c κs. search needs) returns (λ c. omega arith) (λ c. omega arith) loop-again returns-2)

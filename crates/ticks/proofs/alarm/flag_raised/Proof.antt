@@ -4,8 +4,8 @@ use borrow.Author.Needs.{needs}
 use Rattle.ticks.proofs.alarm.flag_raised.Statement.{statement}
 use Rattle.ticks.proofs.alarm.flag_raised.Tie as tie
 
+returns : tie.Need-returns
+returns c = simp (c .before .if1 .taken)
+
 pub flag-raised-spec : {M : Type 1} → statement M
-flag-raised-spec =
-    tie.close
-    (tie.spec
-    (λ c. search needs) (λ c. search needs) (λ c. search needs) (λ c. simp (c .before .if1 .taken)) (λ c. search needs))
+flag-raised-spec = tie.close (tie.spec (λ c. search needs) (λ c. search needs) (λ c. search needs) returns (λ c. search needs))

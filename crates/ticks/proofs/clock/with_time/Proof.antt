@@ -6,10 +6,14 @@ use borrow.Author.Needs.{needs}
 use Rattle.ticks.proofs.clock.with_time.Statement.{statement}
 use Rattle.ticks.proofs.clock.with_time.Tie as tie
 
+returns : tie.Need-returns
+unfolding withTime
+returns c = refl
+
 pub with-time-spec : {M : Type 1} → statement M
 unfolding withTime
 with-time-spec =
     tie.close
     (tie.spec
-    (λ c. search needs) (λ c. search needs) (λ c. search needs) (λ c. search needs) (λ c. search needs) (λ c. search needs) (λ c. search needs)
-    (λ c. search needs) (λ c. refl))
+    (λ c. search needs) (λ c. search needs) (λ c. search needs) (λ c. search needs) (λ c. search needs) (λ c. search needs)
+    (λ c. search needs) (λ c. search needs) returns)

@@ -6,6 +6,10 @@ use borrow.Author.Needs.{needs}
 use Rattle.ticks.proofs.lines.irq_low.Statement.{statement}
 use Rattle.ticks.proofs.lines.irq_low.Tie as tie
 
+returns : tie.Need-returns
+unfolding irqLow
+returns c = refl
+
 pub irq-low-spec : {M : Type 1} → statement M
 unfolding irqLow
-irq-low-spec = tie.close (tie.spec (λ c. search needs) (λ c. search needs) (λ c. search needs) (λ c. refl))
+irq-low-spec = tie.close (tie.spec (λ c. search needs) (λ c. search needs) (λ c. search needs) returns)

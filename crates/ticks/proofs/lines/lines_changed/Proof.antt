@@ -5,10 +5,14 @@ use borrow.Author.Needs.{needs}
 use Rattle.ticks.proofs.lines.lines_changed.Statement.{statement}
 use Rattle.ticks.proofs.lines.lines_changed.Tie as tie
 
+returns : tie.Need-returns
+unfolding changed
+returns c = simp (c .in-progress2 .ensures, c .before .in-progress .ensures, c .before .before .wdo-low2 .ensures, c .before .before .before .wdo-low .ensures, c .before .before .before .before .irq-low2 .ensures, c .before .before .before .before .before .irq-low .ensures)
+
 pub lines-changed-spec : {M : Type 1} → statement M
 unfolding changed
 lines-changed-spec =
     tie.close
     (tie.spec
-    (λ c κs. search needs) (λ c κs. search needs) (λ c κs. search needs) (λ c κs. search needs) (λ c κs. search needs) (λ c κs. search needs)
-    (λ c. simp (c .in-progress2 .ensures, c .before .in-progress .ensures, c .before .before .wdo-low2 .ensures, c .before .before .before .wdo-low .ensures, c .before .before .before .before .irq-low2 .ensures, c .before .before .before .before .before .irq-low .ensures)))
+    (λ c κs. search needs) (λ c κs. search needs) (λ c κs. search needs) (λ c κs. search needs) (λ c κs. search needs)
+    (λ c κs. search needs) returns)

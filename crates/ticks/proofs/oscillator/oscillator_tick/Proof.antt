@@ -17,10 +17,14 @@ add-startup c =
     let n = a .d .counters .startup in
     omega (arith, ltb-true n startupTicks (both-right (asked (a .boots) (a .d .regs)) (ltb n startupTicks) (simp (b .is-starting .ensures) at (c .before .if1 .taken))))
 
+returns : tie.Need-returns
+unfolding oscillatorTick
+returns c = simp (simp (c .before .before .before .is-starting .ensures) at (c .before .before .if1 .taken))
+
+returns-2 : tie.Need-returns-2
+unfolding oscillatorTick
+returns-2 c = simp (simp (c .before .is-starting .ensures) at (c .if1 .left))
+
 pub oscillator-tick-spec : {M : Type 1} → statement M
 unfolding oscillatorTick
-oscillator-tick-spec =
-    tie.close
-    (tie.spec (λ c κs. search needs) add-startup
-    (λ c. simp (simp (c .before .before .before .is-starting .ensures) at (c .before .before .if1 .taken)))
-    (λ c. simp (simp (c .before .is-starting .ensures) at (c .if1 .left))))
+oscillator-tick-spec = tie.close (tie.spec (λ c κs. search needs) add-startup returns returns-2)

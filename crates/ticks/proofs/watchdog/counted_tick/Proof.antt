@@ -28,8 +28,12 @@ returns-3 c =
     let h : m ≤ d .counters .watchdog + 1 = omega arith in
     simp (le-ltb _ _ (c .before .before .before .before .if1 .left), le-ltb (d .counters .watchdog + 1) m h, c .time-out .ensures)
 
+returns : tie.Need-returns
+returns c = simp (lt-ltb _ _ (c .before .if1 .taken))
+
 pub counted-tick-spec : {M : Type 1} → statement M
 counted-tick-spec =
     tie.close
-    (tie.spec (λ c. search needs) (λ c. simp (lt-ltb _ _ (c .before .if1 .taken))) (λ c. search needs) (λ c κs. search needs)
-    sub-if2 (λ c. search needs) returns-2 (λ c κs. search needs) returns-3)
+    (tie.spec
+    (λ c. search needs) returns (λ c. search needs) (λ c κs. search needs) sub-if2 (λ c. search needs) returns-2 (λ c κs. search needs)
+    returns-3)

@@ -11,5 +11,8 @@ add-result c =
     let h : c .before .args .n + c .before .args .k < 4294967296 = rw (c .if1 .taken) at (c .before .pre) in
     omega arith
 
+returns : tie.Need-returns
+returns c = simp (c .if1 .taken)
+
 pub grown-spec : {M : Type 1} → statement M
-grown-spec = tie.close (tie.spec add-result (λ c. simp (c .if1 .taken)) (λ c. search needs))
+grown-spec = tie.close (tie.spec add-result returns (λ c. search needs))
