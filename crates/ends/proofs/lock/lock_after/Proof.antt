@@ -5,13 +5,13 @@ use Rattle.ends.proofs.lock.lock_after.Statement.{statement}
 use Rattle.ends.proofs.lock.lock_after.Tie as tie
 
 returns : tie.Need-returns
-returns c = simp (c .unlocked-by .ensures, c .before .unlock-byte .ensures, simp (c .before .before .before .is .ensures, c .before .before .before .before .code-at .ensures) at (c .before .before .if2 .taken), c .before .before .before .is .ensures, c .before .before .before .before .code-at .ensures, simp (c .before .before .before .before .before .before .is-heard .ensures) at (c .before .before .before .before .before .if1 .taken), c .before .before .before .before .before .before .is-heard .ensures)
+returns c = simp (c .unlocked-by .ensures, c .before .unlock-byte .ensures, simp (c .before .before .before .is .ensures, c .before .before .before .before .code-at .ensures) at (c .before .before .if2 .taken), simp (c .before .before .before .before .before .before .is-heard .ensures) at (c .before .before .before .before .before .if1 .taken))
 
 returns-2 : tie.Need-returns-2
-returns-2 c = simp (simp (c .before .leaves-lock .ensures, c .before .before .before .before .code-at .ensures) at (c .if3 .taken), c .before .leaves-lock .ensures, simp (c .before .before .before .is .ensures, c .before .before .before .before .code-at .ensures) at (c .before .before .if2 .left), c .before .before .before .is .ensures, c .before .before .before .before .code-at .ensures, simp (c .before .before .before .before .before .before .is-heard .ensures) at (c .before .before .before .before .before .if1 .taken), c .before .before .before .before .before .before .is-heard .ensures)
+returns-2 c = simp (simp (c .before .leaves-lock .ensures, c .before .before .before .before .code-at .ensures) at (c .if3 .taken), simp (c .before .before .before .is .ensures, c .before .before .before .before .code-at .ensures) at (c .before .before .if2 .left), simp (c .before .before .before .before .before .before .is-heard .ensures) at (c .before .before .before .before .before .if1 .taken))
 
 returns-3 : tie.Need-returns-3
-returns-3 c = simp (simp (c .before .leaves-lock .ensures, c .before .before .before .before .code-at .ensures) at (c .if3 .left), c .before .leaves-lock .ensures, simp (c .before .before .before .is .ensures, c .before .before .before .before .code-at .ensures) at (c .before .before .if2 .left), c .before .before .before .is .ensures, c .before .before .before .before .code-at .ensures, simp (c .before .before .before .before .before .before .is-heard .ensures) at (c .before .before .before .before .before .if1 .taken), c .before .before .before .before .before .before .is-heard .ensures)
+returns-3 c = simp (simp (c .before .leaves-lock .ensures, c .before .before .before .before .code-at .ensures) at (c .if3 .left), simp (c .before .before .before .is .ensures, c .before .before .before .before .code-at .ensures) at (c .before .before .if2 .left), simp (c .before .before .before .before .before .before .is-heard .ensures) at (c .before .before .before .before .before .if1 .taken))
 
 pub lock-after-spec : {M : Type 1} → statement M
 lock-after-spec =

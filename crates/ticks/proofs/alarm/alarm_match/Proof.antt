@@ -28,7 +28,7 @@ returns-5 c = simp (eq-eqb _ _ (c .before .before .if5 .taken), ne-eqb _ _ (c .b
 
 returns-6 : tie.Need-returns-6
 unfolding alarmMatch
-returns-6 c = simp (eq-eqb _ _ (c .if6 .taken), ne-eqb _ _ (c .before .if5 .left), ne-eqb _ _ (c .before .before .if4 .left), ne-eqb _ _ (c .before .before .before .if3 .left), ne-eqb _ _ (c .before .before .before .before .if2 .left), ne-eqb _ _ (c .before .before .before .before .before .if1 .left), c .before .before .before .before .before .before .before .matches-at .ensures)
+returns-6 c = simp (eq-eqb _ _ (c .if6 .taken), ne-eqb _ _ (c .before .if5 .left), ne-eqb _ _ (c .before .before .if4 .left), ne-eqb _ _ (c .before .before .before .if3 .left), ne-eqb _ _ (c .before .before .before .before .if2 .left), ne-eqb _ _ (c .before .before .before .before .before .if1 .left))
 
 returns-7 : tie.Need-returns-7
 unfolding alarmMatch
@@ -36,7 +36,7 @@ returns-7 c = simp (c .before .all-match .ensures, eq-eqb _ _ (c .before .before
 
 returns-8 : tie.Need-returns-8
 unfolding alarmMatch
-returns-8 c = simp (ne-eqb _ _ (c .if7 .left), ne-eqb _ _ (c .before .if6 .left), ne-eqb _ _ (c .before .before .if5 .left), ne-eqb _ _ (c .before .before .before .if4 .left), ne-eqb _ _ (c .before .before .before .before .if3 .left), ne-eqb _ _ (c .before .before .before .before .before .if2 .left), ne-eqb _ _ (c .before .before .before .before .before .before .if1 .left), c .before .before .before .before .before .before .before .before .matches-at .ensures)
+returns-8 c = simp (ne-eqb _ _ (c .if7 .left), ne-eqb _ _ (c .before .if6 .left), ne-eqb _ _ (c .before .before .if5 .left), ne-eqb _ _ (c .before .before .before .if4 .left), ne-eqb _ _ (c .before .before .before .before .if3 .left), ne-eqb _ _ (c .before .before .before .before .before .if2 .left), ne-eqb _ _ (c .before .before .before .before .before .before .if1 .left))
 
 pub alarm-match-spec : {M : Type 1} → statement M
 unfolding alarmMatch

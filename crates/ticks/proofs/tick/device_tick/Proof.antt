@@ -7,11 +7,11 @@ use Rattle.ticks.proofs.tick.device_tick.Tie as tie
 
 returns : tie.Need-returns
 unfolding deviceTick
-returns c = simp (c .clockwork-tick .ensures, c .before .cycle-tick .ensures, simp (c .before .before .before .is-alive .ensures) at (c .before .before .if1 .taken), c .before .before .before .is-alive .ensures)
+returns c = simp (c .clockwork-tick .ensures, c .before .cycle-tick .ensures, simp (c .before .before .before .is-alive .ensures) at (c .before .before .if1 .taken))
 
 returns-2 : tie.Need-returns-2
 unfolding deviceTick
-returns-2 c = simp (simp (c .before .is-alive .ensures) at (c .if1 .left), c .before .is-alive .ensures)
+returns-2 c = simp (simp (c .before .is-alive .ensures) at (c .if1 .left))
 
 pub device-tick-spec : {M : Type 1} → statement M
 unfolding deviceTick

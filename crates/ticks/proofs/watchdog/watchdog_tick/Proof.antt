@@ -7,11 +7,11 @@ use Rattle.ticks.proofs.watchdog.watchdog_tick.Tie as tie
 
 returns : tie.Need-returns
 unfolding watchdogTick
-returns c = simp (c .counted-tick .ensures, simp (c .before .before .is-counting .ensures) at (c .before .if1 .taken), c .before .before .is-counting .ensures, c .before .before .before .before .pulse-tick .ensures)
+returns c = simp (c .counted-tick .ensures, simp (c .before .before .is-counting .ensures) at (c .before .if1 .taken), c .before .before .before .before .pulse-tick .ensures)
 
 returns-2 : tie.Need-returns-2
 unfolding watchdogTick
-returns-2 c = simp (simp (c .before .is-counting .ensures) at (c .if1 .left), c .before .is-counting .ensures, c .before .before .before .pulse-tick .ensures)
+returns-2 c = simp (simp (c .before .is-counting .ensures) at (c .if1 .left), c .before .before .before .pulse-tick .ensures)
 
 pub watchdog-tick-spec : {M : Type 1} → statement M
 unfolding watchdogTick
