@@ -10,7 +10,7 @@ use native.Mathlib.Omega.{arith}
 use borrow.Author.Tests.{ltb-true, ltb-false}
 use lib.Dec.{ltb}
 use Rattle.base.specs.Wait.{Waited, plus, waitedBy, steps, stopsAt}
-use Rattle.base.proofs.Tests.{by-cases, true-false}
+use Rattle.base.proofs.Tests.{by-cases}
 
 -- Steps with no stop.
 module _ {S : Type 0} (step : S → S) where

@@ -26,8 +26,8 @@ abbrev pub flag : Bool → ℕ
 flag b = pick b 1 0
 
 -- both digits of a BCD byte are decimal
-abbrev pub decimal : ℕ → Bool
-decimal x = leb (x / 16) 9 && leb (x % 16) 9
+abbrev pub isBcd : ℕ → Bool
+isBcd x = leb (x / 16) 9 && leb (x % 16) 9
 
 -- the value of a BCD byte, and the BCD byte of a value below 100
 abbrev pub bcdValue : ℕ → ℕ

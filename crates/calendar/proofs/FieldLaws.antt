@@ -6,7 +6,7 @@ use Prim.Native.Nat.{ℕ, _+_, _/_, _%_, _<_, _≤_}
 use native.Mathlib.Omega.{arith}
 use borrow.Author.Tests.{leb-true, le-leb, ltb-true, eqb-true, eqb-false}
 use lib.Dec.{leb, ltb, eqb}
-use Rattle.base.specs.Words.{decimal, bcdValue, bcdByte}
+use Rattle.base.specs.Words.{isBcd, bcdValue, bcdByte}
 use Rattle.base.proofs.Tests.{by-cases, both-left, both-right, pick-when}
 use Rattle.calendar.specs.declared.Step.{Step}
 use Rattle.calendar.specs.Field.{validField, nextField, onCarry}
@@ -21,8 +21,8 @@ pub record Valid (first last x : ℕ) : Type 0 where
 pub valid-is : (first last x : ℕ) → validField first last x ≡ true → Valid first last x
 unfolding validField
 valid-is first last x e =
-    let d : decimal x ≡ true = both-left (decimal x) (leb first x && leb x last) e in
-    let r : (leb first x && leb x last) ≡ true = both-right (decimal x) (leb first x && leb x last) e in
+    let d : isBcd x ≡ true = both-left (isBcd x) (leb first x && leb x last) e in
+    let r : (leb first x && leb x last) ≡ true = both-right (isBcd x) (leb first x && leb x last) e in
     record {
       tens = leb-true (x / 16) 9 (both-left (leb (x / 16) 9) (leb (x % 16) 9) d);
       units = leb-true (x % 16) 9 (both-right (leb (x / 16) 9) (leb (x % 16) 9) d);

@@ -199,7 +199,7 @@ pub advanced-masked : (t : Time) → TimeMasked t → TimeMasked (advanced t .ti
 advanced-masked t m = fits-masked (advanced t .time) (advanced-fits t (masked-fits t m))
 
 -- K10. How far the carry went: a field that did not advance keeps its byte, and the next one did not advance either.
-pub record Kept (t : Time) (a : Advanced) : Type 0 where
+pub record CarryEnds (t : Time) (a : Advanced) : Type 0 where
   pub seconds : a .seconds ≡ false → (a .time .seconds ≡ t .seconds) × (a .minutes ≡ false)
   pub minutes : a .minutes ≡ false → (a .time .minutes ≡ t .minutes) × (a .hours ≡ false)
   pub hours : a .hours ≡ false → (a .time .hours ≡ t .hours) × (a .days ≡ false)
@@ -207,9 +207,9 @@ pub record Kept (t : Time) (a : Advanced) : Type 0 where
       a .days ≡ false
       → (a .time .day ≡ t .day) × (a .time .date ≡ t .date) × (a .time .month ≡ t .month) × (a .time .year ≡ t .year)
 
-pub kept : (t : Time) → Kept t (advanced t)
+pub carry-ends : (t : Time) → CarryEnds t (advanced t)
 unfolding advanced onDay
-kept t =
+carry-ends t =
     record {
       seconds = λ e. (simp e, simp e);
       minutes = λ e. (simp e, simp e);

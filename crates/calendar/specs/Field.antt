@@ -4,12 +4,12 @@
 use Prim.Native.Nat.{ℕ, _+_, _-_, _%_}
 use mathlib.Core.Bool.{Bool, true, false, _&&_}
 use lib.Dec.{ltb, leb}
-use Rattle.base.specs.Words.{pick, decimal, bcdValue, bcdByte}
+use Rattle.base.specs.Words.{pick, isBcd, bcdValue, bcdByte}
 use Rattle.calendar.specs.declared.Step.{Step}
 
 -- K7. A value is valid if its two digits are decimal and it is neither before the first nor past the last.
 unfoldable pub validField : ℕ → ℕ → ℕ → Bool
-validField first last x = decimal x && (leb first x && leb x last)
+validField first last x = isBcd x && (leb first x && leb x last)
 
 -- K8 (bench). The step of a field: one further where the value is valid and not the last; else to the first, with a carry.
 unfoldable pub nextField : ℕ → ℕ → ℕ → Step

@@ -10,8 +10,7 @@ use Rattle.base.specs.Wait.{waitedBy}
 use Rattle.base.specs.Words.{every, members, storeUnder}
 use Rattle.calendar.specs.Field.{validField}
 use Rattle.calendar.specs.Date.{leapYear}
-use Rattle.record.specs.declared.Act.the-variants.{Select, Byte, End, Wait, Cut, Up}
-use Rattle.record.specs.declared.Device.{Device}
+use Rattle.record.specs.declared.Act.the-variants.{Select, End, Wait, Cut, Up}
 use Rattle.record.specs.declared.Reply.{Reply}
 use Rattle.record.specs.declared.Reply.the-variants.{Driven, Off}
 use Rattle.record.specs.declared.Protection.{Protection}
@@ -19,8 +18,8 @@ use Rattle.record.specs.declared.Protection.the-variants.{Nothing, Quarter, Hal
 use Rattle.record.specs.declared.Target.{Target}
 use Rattle.record.specs.declared.Target.the-variants.{Eeprom, Id, Status}
 use Rattle.record.specs.Fresh.{fresh}
-use Rattle.record.specs.Scene.{counts, chip, started}
-use Rattle.record.specs.Setters.{withLoad, withWel, withProtection, withCycle}
+use Rattle.record.specs.Scene.{chip, started}
+use Rattle.record.specs.Setters.{counts, withLoad, withWel, withProtection, withCycle}
 use Rattle.record.specs.World.{World, world}
 use Rattle.refusals.specs.Range.{outOfRange, clockOut, frameOut, cycleOut, powerOut, bitOutside}
 use Rattle.refusals.specs.Refusal.{refusalOf}
@@ -36,7 +35,7 @@ use Rattle.ends.specs.Write.{carried, cycleAfter, welAfter}
 use Rattle.ends.specs.End.{afterEnd}
 use Rattle.power.specs.Power.{afterCut, cutCount, cutWorld, afterUp}
 use Rattle.acts.specs.Act.{performed}
-use Rattle.run.specs.Claim.{Input, ourChip, worldAfter}
+use Rattle.run.specs.Claim.{ourChip, worldAfter}
 use Rattle.run.specs.Script.{does, sent, raggedFrame, frameOf}
 use Rattle.edges.specs.Scene.{after, bytesAnswered, afterBytes, replies, waiting, lent, scene}
 

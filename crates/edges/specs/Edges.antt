@@ -1,10 +1,9 @@
 -- E1. The edges that document 01 marks P, under one statement. It cites only definitions that the contracts of `perform`, `run` and the
 -- calendar cite, itself or through another. The acts begin at a fresh chip.
 -- Assumes nothing.
-use Prim.Native.Nat.{ℕ}
 use mathlib.Core.Path.{_≡_, refl}
 use mathlib.Core.Bool.{true, false}
-use mathlib.Core.List.{List, [], _∷_, _++_}
+use mathlib.Core.List.{[], _∷_, _++_}
 use lib.ListN.{set, take, replicate}
 use Rattle.base.specs.Wait.{waitedBy}
 use Rattle.base.specs.Words.{every, storeUnder}
@@ -13,7 +12,7 @@ use Rattle.calendar.specs.Clock.{nextSeconds}
 use Rattle.calendar.specs.Hours.{nextHours}
 use Rattle.calendar.specs.Date.{leapYear, monthLength, nextDate}
 use Rattle.calendar.specs.Time.{dateOf, withDate, onDay, advanced}
-use Rattle.record.specs.declared.Act.the-variants.{Byte, Wait}
+use Rattle.record.specs.declared.Act.the-variants.{Wait}
 use Rattle.record.specs.declared.Reply.the-variants.{Driven}
 use Rattle.record.specs.Fresh.{fresh}
 use Rattle.record.specs.World.{World, freshWorld}
@@ -31,8 +30,8 @@ use Rattle.frames.specs.Frame.{nextReply, afterByte, afterSelect}
 use Rattle.ends.specs.Write.{carried, cycleAfter, welAfter}
 use Rattle.ends.specs.End.{afterEnd}
 use Rattle.acts.specs.Act.{performed}
-use Rattle.run.specs.Claim.{Input, ourChip, worldAfter}
-use Rattle.run.specs.Script.{does, sent, frameOf}
+use Rattle.run.specs.Claim.{ourChip, worldAfter}
+use Rattle.run.specs.Script.{sent, frameOf}
 use Rattle.edges.specs.Scene.{after, bytesAnswered, afterBytes, replies, waiting}
 
 pub Edges : Type 0

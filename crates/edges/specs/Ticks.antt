@@ -1,7 +1,7 @@
 -- Closed witnesses of ticks: one tick or a few, on a record that is written out, through `performed`. Each shows a rule a second time, as the
 -- paper's numbers.
 -- Assumes nothing.
-use Prim.Native.Nat.{ℕ, _+_, _*_, _-_}
+use Prim.Native.Nat.{ℕ, _+_, _-_}
 use mathlib.Core.Path.{_≡_, refl}
 use mathlib.Core.List.{List, [], _∷_, _++_}
 use lib.ListN.{getD, set, take, replicate}
@@ -13,10 +13,9 @@ use Rattle.calendar.specs.Date.{leapYear, monthLength, dateLast, nextDate}
 use Rattle.calendar.specs.Time.{dateOf, withDate, onDay, advanced}
 use Rattle.record.specs.declared.Act.the-variants.{Wait}
 use Rattle.record.specs.declared.Device.{Device}
-use Rattle.record.specs.Scene.{counts, chip, started}
-use Rattle.record.specs.Setters.{withCycle}
+use Rattle.record.specs.Scene.{chip, started}
+use Rattle.record.specs.Setters.{counts, withCycle}
 use Rattle.record.specs.declared.Target.the-variants.{Eeprom}
-use Rattle.record.specs.World.{World}
 use Rattle.refusals.specs.Range.{outOfRange, clockOut, frameOut, cycleOut, powerOut, bitOutside}
 use Rattle.refusals.specs.Refusal.{refusalOf}
 use Rattle.registers.specs.Write.{writeClock, afterWrite}
@@ -30,8 +29,8 @@ use Rattle.frames.specs.Frame.{nextReply, afterByte, afterSelect}
 use Rattle.ends.specs.Write.{carried, cycleAfter, welAfter}
 use Rattle.ends.specs.End.{afterEnd}
 use Rattle.acts.specs.Act.{performed}
-use Rattle.run.specs.Claim.{Input, ourChip, worldAfter}
-use Rattle.run.specs.Script.{does, sent, frameOf}
+use Rattle.run.specs.Claim.{ourChip, worldAfter}
+use Rattle.run.specs.Script.{sent, frameOf}
 use Rattle.edges.specs.Scene.{after, waiting, lent, scene}
 
 -- 0Ah, the watchdog's count, its delay and its pulse after one tick, with ST set and OSCON on

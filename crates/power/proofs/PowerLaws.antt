@@ -3,7 +3,7 @@
 use Prim.Native.Nat.{ℕ, _+_, _%_, _<_, _≤_}
 use native.Mathlib.Omega.{arith}
 use mathlib.Core.Path.{_≡_, refl, sym, _∙_}
-use mathlib.Core.Bool.{Bool, true, false, true≢false}
+use mathlib.Core.Bool.{Bool, false, true≢false}
 use mathlib.Core.List.{List}
 use lib.Bits.{bitAnd, and-le-r}
 use lib.Count.{ones, ones-le}
@@ -28,7 +28,7 @@ use Rattle.record.specs.Setters.{withWatchdog, withDelay, withPulse}
 use Rattle.record.specs.Stored.{storedSet}
 use Rattle.record.specs.World.{World, Sized}
 use Rattle.record.proofs.PeriodLaws.{period-least}
-use Rattle.refusals.specs.InRange.{PowerRange, InRange}
+use Rattle.refusals.specs.InRange.{InRange}
 use Rattle.refusals.proofs.RangeLaws.{fresh-facts}
 use Rattle.refusals.proofs.KeepLaws.{ClockOf, Beside, beside, watchdog-in, delay-in, pulse-in, regs-in, set-inside, in-range-beside}
 use Rattle.ticks.proofs.WaitLaws.{eeprom-after-length, id-after-length}

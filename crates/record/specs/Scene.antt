@@ -11,10 +11,6 @@ use Rattle.record.specs.declared.Lock.the-variants.{Closed}
 use Rattle.record.specs.declared.Stage.the-variants.{Idle}
 use Rattle.record.specs.declared.Target.the-variants.{Eeprom}
 
--- counts in the record's order: divider, start-up, and the watchdog's count, delay and pulse
-abbrev pub counts : ℕ → ℕ → ℕ → ℕ → ℕ → Counters
-counts divider startup watchdog delay pulse = record { divider = divider; startup = startup; watchdog = watchdog; delay = delay; pulse = pulse }
-
 -- a chip with these registers and counts, power on, no frame and no cycle; every byte of SRAM 07h
 abbrev pub chip : List ℕ → Counters → Device
 chip regs c =

@@ -11,7 +11,6 @@ use Rattle.record.specs.declared.Lock.{Lock}
 use Rattle.record.specs.declared.Cycle.{Cycle}
 use Rattle.record.specs.declared.Protection.{Protection}
 use Rattle.record.specs.declared.Stage.{Stage}
-use Rattle.record.specs.declared.Target.{Target}
 
 abbrev device : List ℕ → List ℕ → Counters → Bool → Guard → Stage → Load → Cycle → Device
 device regs sram counters power guard stage load cycle =
@@ -41,8 +40,8 @@ withLoad d load = device (d .regs) (d .sram) (d .counters) (d .power) (d .guard)
 abbrev pub withCycle : Device → Cycle → Device
 withCycle d cycle = device (d .regs) (d .sram) (d .counters) (d .power) (d .guard) (d .frame .stage) (d .load) cycle
 
--- single counts
-abbrev counts : ℕ → ℕ → ℕ → ℕ → ℕ → Counters
+-- single counts; `counts` has them in the record's order: divider, start-up, and the watchdog's count, delay and pulse
+abbrev pub counts : ℕ → ℕ → ℕ → ℕ → ℕ → Counters
 counts divider startup watchdog delay pulse = record { divider = divider; startup = startup; watchdog = watchdog; delay = delay; pulse = pulse }
 
 abbrev pub withDivider : Device → ℕ → Device

@@ -9,8 +9,7 @@ use mathlib.Core.Bool.{Bool, true, false, not, _&&_, _||_}
 use mathlib.Core.List.{List, [], _∷_}
 use borrow.Author.Tests.{lt-ltb, lt-leb, ltb-true, ltb-false, leb-true, leb-false, eqb-true, eqb-false, not-true, not-false}
 use lib.Dec.{ltb, leb}
-use lib.ListN.{getD}
-use Rattle.base.specs.Words.{every, anyOf}
+use Rattle.base.specs.Words.{every}
 use Rattle.base.proofs.Tests.{by-cases, both-left, both-right, both-true, either, neither-left, neither-right, true-false, none-holds, some-holds}
 use Rattle.base.proofs.Every.{every-at, every-miss}
 use Rattle.record.specs.declared.Device.{Device}
@@ -31,7 +30,6 @@ use Rattle.record.specs.Codes.{isCode, heardUnderWip}
 use Rattle.record.specs.Stages.{selected, heard, codeAt, foreignToWip, framePlace, cyclePlace, idPointer, eepromPointer}
 use Rattle.record.proofs.CodeLaws.{same-code}
 use Rattle.record.proofs.StageLaws.{idle, not-idle}
-use Rattle.refusals.specs.Range as range
 use Rattle.refusals.specs.Range.{insideMask, bitOutside, clockTests, frameTests, cycleTests, powerTests, clockOut, frameOut, cycleOut, powerOut, rangeTests, outOfRange}
 use Rattle.refusals.specs.InRange.{ClockRange, PlaceRange, FrameRange, CycleRange, PowerRange, InRange}
 use Rattle.refusals.specs.Rows.{Pointer, frame, cycle, Five, srread-five, read-five, write-five, clrwdt-five, clrram-five, RangeRow, divider, startup, countdown, pulse, delay, watchdog, offset, idPointer as idRow, eepromPointer as eepromRow, outside, stopped, unpowered, foreign}

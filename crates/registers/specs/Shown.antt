@@ -7,7 +7,8 @@ use mathlib.Core.Bool.{Bool, true, false}
 use mathlib.Core.List.{List, [], _∷_}
 use lib.ListN.{getD, set}
 use Rattle.record.specs.declared.Device.{Device}
-use Rattle.record.specs.Scene.{counts, chip, started}
+use Rattle.record.specs.Setters.{counts}
+use Rattle.record.specs.Scene.{chip, started}
 use Rattle.registers.specs.Read.{readClock}
 use Rattle.registers.specs.Write.{writeClock, afterWrite}
 

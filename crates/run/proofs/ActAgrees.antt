@@ -16,7 +16,6 @@ use Rattle.record.specs.declared.Device.{Device}
 use Rattle.record.specs.declared.Frame.{Frame}
 use Rattle.record.specs.declared.Guard.{Guard}
 use Rattle.record.specs.declared.Load.{Load}
-use Rattle.record.specs.declared.Lock.{Lock}
 use Rattle.record.specs.declared.Target.{Target}
 use Rattle.record.specs.declared.Target.the-variants.{Eeprom, Id, Status}
 use Rattle.record.specs.Numbers.{protectionNumber}
@@ -24,7 +23,6 @@ use Rattle.record.specs.Part.{isPart, topOf, bootsOf}
 use Rattle.record.specs.Stages.{selected}
 use Rattle.record.specs.Stored.{wholeMask}
 use Rattle.record.specs.World.{World, moved}
-use Rattle.refusals.proofs.KeepLaws.{Beside}
 use Rattle.ticks.specs.Lines.{wip}
 use Rattle.ticks.specs.RecordTick.{ended}
 use Rattle.ticks.specs.Tick.{waited}
@@ -32,7 +30,7 @@ use Rattle.ticks.proofs.WaitLaws.{Spent, wait-spent, spent-ended}
 use Rattle.frames.specs.Frame.{loadAfter, afterByte, afterSelect}
 use Rattle.frames.proofs.FrameLaws.{written-beside, stage-selected}
 use Rattle.ends.specs.End.{afterEnd}
-use Rattle.power.specs.Power.{stoppedBy, afterCut, cutWorld, afterUp}
+use Rattle.power.specs.Power.{afterCut, cutWorld, afterUp}
 use Rattle.power.proofs.PowerLaws.{cut-beside}
 use Rattle.acts.proofs.ValidLaws.{Valid}
 use Rattle.ledger.specs.State.{Ledger, noByte, noCycle}

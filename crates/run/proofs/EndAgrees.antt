@@ -7,7 +7,7 @@ use mathlib.Core.Path.{_≡_, refl, sym, ap, subst, _∙_}
 use mathlib.Core.Bool.{Bool, true, false, not, _&&_, _||_, false≢true, and-false}
 use mathlib.Core.Logic.{_⊎_, inl, inr, ⊎-elim}
 use lib.Dec.{eqb, ltb}
-use borrow.Author.Tests.{eq-eqb, ne-eqb, lt-ltb, le-ltb, ltb-true, ltb-false, eqb-true}
+use borrow.Author.Tests.{eq-eqb, ne-eqb, lt-ltb, le-ltb, ltb-true, ltb-false}
 use Rattle.base.specs.Words.{pick, every}
 use Rattle.base.proofs.Tests.{by-cases, pick-case, both-left, both-right}
 use Rattle.base.proofs.Every.{same-below}
@@ -15,8 +15,6 @@ use Rattle.record.specs.declared.Device.{Device}
 use Rattle.record.specs.declared.EepromAddress.{EepromAddress}
 use Rattle.record.specs.declared.IdAddress.{IdAddress}
 use Rattle.record.specs.declared.Load.{Load}
-use Rattle.record.specs.declared.Cycle.{Cycle}
-use Rattle.record.specs.declared.Guard.{Guard}
 use Rattle.record.specs.declared.Code.{Code}
 use Rattle.record.specs.declared.Code.the-variants.{Eewrite, Eewrdi, Eewren, Srread, Srwrite, Unlock, Idwrite, Other}
 use Rattle.record.specs.declared.Long.the-variants.{StatusOver}

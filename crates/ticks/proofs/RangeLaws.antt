@@ -1,6 +1,6 @@
 -- A tick and a wait leave a record in range, part by part.
 -- Assumes nothing.
-use mathlib.Core.Path.{_≡_, refl, sym, _∙_}
+use mathlib.Core.Path.{_≡_, sym, _∙_}
 use mathlib.Core.Bool.{Bool, false}
 use mathlib.Core.List.{List}
 use Prim.Native.Nat.{ℕ, _+_, _-_, _%_, _<_, _≤_}
@@ -10,7 +10,6 @@ use lib.Bits.{bitAnd, bitOr, and-le-r, or-lt}
 use lib.Dec.{ltb, eqb}
 use lib.ListN.{getD, set}
 use Rattle.base.specs.Words.{pick, bit}
-use Rattle.base.specs.Wait.{Waited}
 use Rattle.base.proofs.Tests.{pick-case, pick-when, both-left, both-right, neither, true-false}
 use Rattle.base.proofs.BitLaws.{below-mask}
 use Rattle.base.proofs.StoreLaws.{set-case}
@@ -20,15 +19,14 @@ use Rattle.calendar.proofs.TimeLaws.{TimeMasked, advanced-masked}
 use Rattle.record.specs.declared.Device.{Device}
 use Rattle.record.specs.Part.{bootsOf}
 use Rattle.record.specs.Registers.{wdtpls, oscon, watchdogAt, secondsAt, periodOf, startupTicks, longPulse, shortPulse, dividerTicks}
-use Rattle.record.specs.Setters.{withRegs, withWel, withProtection, withLeft, withDivider, withWatchdog, withPulse}
-use Rattle.record.specs.Stored.{wholeMask, protectionAfter}
+use Rattle.record.specs.Setters.{withRegs, withLeft, withDivider, withWatchdog, withPulse}
 use Rattle.record.proofs.PeriodLaws.{period-least}
 use Rattle.refusals.specs.InRange.{InRange}
 use Rattle.refusals.proofs.KeepLaws.{ClockOf, Inside, AllInside, Paced, Halted, divider-in, startup-in, watchdog-in, delay-in, pulse-in, regs-in, set-inside, in-range-beside, guard-in, left-in}
 use Rattle.ticks.specs.Lines.{changed}
 use Rattle.ticks.specs.Oscillator.{asked, starting, oscillatorTick}
 use Rattle.ticks.specs.Watchdog.{counting, pulseTick, timeOut, countedTick, watchdogTick}
-use Rattle.ticks.specs.Clock.{timeOf, running, dividerTick, calendarTick, alarmTick}
+use Rattle.ticks.specs.Clock.{timeOf, running, calendarTick, alarmTick}
 use Rattle.ticks.specs.Tick.{cycleDevice, clockwork, alive}
 use Rattle.ticks.specs.RecordTick.{deviceTick, deviceWaited}
 use Rattle.ticks.proofs.ClockLaws.{clock-each, clock-other, clock-st}

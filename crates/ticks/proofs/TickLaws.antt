@@ -10,7 +10,7 @@ use lib.Dec.{ltb, eqb}
 use lib.ListN.{length, getD, set, length-set}
 use Rattle.base.specs.Words.{pick, bit}
 use Rattle.base.proofs.Tests.{by-cases, yes, no, pick-case, pick-when, pick-map}
-use Rattle.base.proofs.StoreLaws.{set-case, store-length}
+use Rattle.base.proofs.StoreLaws.{set-case}
 use Rattle.record.specs.declared.Device.{Device}
 use Rattle.record.specs.declared.Cycle.{Cycle}
 use Rattle.record.specs.declared.Guard.{Guard}

@@ -1,19 +1,19 @@
 -- Laws of a wait of the chip: what it does to a write cycle and the memories, that the record's wait and one store of a page serve, and that it
 -- keeps every length. Where it stops, and how it splits, are the laws of any wait (base).
 -- Assumes nothing.
-use mathlib.Core.Path.{_≡_, refl, sym, ap, subst, _∙_}
+use mathlib.Core.Path.{_≡_, refl, sym, ap, _∙_}
 use mathlib.Core.Bool.{Bool, true, false, not, _&&_, and-false}
 use mathlib.Core.List.{List}
 use mathlib.Core.Logic.{_⊎_, inl, inr, ⊎-elim, _≢_}
-use Prim.Native.Nat.{ℕ, zero, suc, _+_, _-_, _<_, _≤_}
+use Prim.Native.Nat.{ℕ, zero, suc, _-_, _<_, _≤_}
 use native.Mathlib.Numerals.{add-one}
 use native.Mathlib.Omega.{arith}
-use borrow.Author.Tests.{ltb-true, ltb-false, lt-ltb, le-ltb, le-leb, lt-leb, eq-eqb, ne-eqb, eqb-true, eqb-false, not-true}
+use borrow.Author.Tests.{ltb-true, ltb-false, lt-ltb, le-ltb, le-leb, lt-leb, eq-eqb, ne-eqb, eqb-true, eqb-false}
 use lib.Dec.{ltb, leb, eqb}
 use lib.ListN.{length}
 use Rattle.base.specs.Words.{pick}
-use Rattle.base.specs.Wait.{Waited, plus, waitedBy}
-use Rattle.base.proofs.Tests.{by-cases, yes, no, both-left, both-right, neither-left, both-true, true-false, pick-case}
+use Rattle.base.specs.Wait.{Waited, plus}
+use Rattle.base.proofs.Tests.{by-cases, no, neither-left, both-true, true-false}
 use Rattle.base.proofs.StoreLaws.{store-length}
 use Rattle.base.proofs.WaitLaws.{wait-none, wait-go, wait-each, wait-map}
 use Rattle.record.specs.declared.Device.{Device}

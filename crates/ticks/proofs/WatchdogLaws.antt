@@ -1,7 +1,7 @@
 -- Laws of the watchdog's part of a tick: a pulse that does not run.
 -- Assumes nothing.
 use mathlib.Core.Path.{_≡_, ap}
-use Prim.Native.Nat.{ℕ, _≤_}
+use Prim.Native.Nat.{_≤_}
 use native.Mathlib.Omega.{arith}
 use Rattle.record.specs.declared.Device.{Device}
 use Rattle.record.specs.Setters.{withPulse}

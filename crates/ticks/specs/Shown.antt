@@ -10,7 +10,8 @@ use Rattle.base.specs.Words.{flag}
 use Rattle.calendar.specs.declared.Advanced.{Advanced}
 use Rattle.record.specs.declared.Counters.{Counters}
 use Rattle.record.specs.declared.Device.{Device}
-use Rattle.record.specs.Scene.{counts, chip, started}
+use Rattle.record.specs.Setters.{counts}
+use Rattle.record.specs.Scene.{chip, started}
 use Rattle.ticks.specs.Alarm.{matchesAt, alarmMatch, alarmed}
 use Rattle.ticks.specs.Lines.{irqLow, wdoLow}
 use Rattle.ticks.specs.Oscillator.{oscillatorTick}

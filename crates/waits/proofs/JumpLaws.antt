@@ -16,7 +16,7 @@ use Rattle.record.specs.declared.Device.{Device}
 use Rattle.record.specs.declared.Counters.{Counters}
 use Rattle.record.specs.Registers.{oscon, watchdogAt, periodOf, dividerTicks}
 use Rattle.record.specs.Setters.{withCounters, withLeft}
-use Rattle.ticks.specs.Lines.{irqLow, wdoLow, wip, changed}
+use Rattle.ticks.specs.Lines.{irqLow, wdoLow, changed}
 use Rattle.ticks.specs.Oscillator.{starting, oscillatorTick}
 use Rattle.ticks.specs.Watchdog.{watchdogTick}
 use Rattle.ticks.specs.Clock.{running, hundredthDue, calendarTick, alarmTick}
