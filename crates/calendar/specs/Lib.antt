@@ -3,3 +3,4 @@ pub mod Clock
 pub mod Hours
 pub mod Date
 pub mod Time
+pub mod Shown
