@@ -10,7 +10,7 @@ use Rattle.base.specs.Wait.{waitedBy}
 use Rattle.base.specs.Words.{every, members, storeUnder}
 use Rattle.calendar.specs.Field.{validField}
 use Rattle.calendar.specs.Date.{leapYear}
-use Rattle.record.specs.declared.Act.the-variants.{Select, End, Wait, Cut, Up}
+use Rattle.record.specs.declared.Act.the-variants.{Select, Byte, End, Wait, Cut, Up}
 use Rattle.record.specs.declared.Reply.{Reply}
 use Rattle.record.specs.declared.Reply.the-variants.{Driven, Off}
 use Rattle.record.specs.declared.Protection.{Protection}
@@ -34,7 +34,7 @@ use Rattle.frames.specs.Frame.{statusByte, nextReply, afterByte, afterSelect}
 use Rattle.ends.specs.Write.{carried, cycleAfter, welAfter}
 use Rattle.ends.specs.End.{afterEnd}
 use Rattle.power.specs.Power.{afterCut, cutCount, cutWorld, afterUp}
-use Rattle.acts.specs.Act.{performed}
+use Rattle.acts.specs.Act.{Outcome, performed}
 use Rattle.run.specs.Claim.{ourChip, worldAfter}
 use Rattle.run.specs.Script.{does, sent, raggedFrame, frameOf}
 use Rattle.edges.specs.Scene.{after, bytesAnswered, afterBytes, replies, waiting, lent, scene}
@@ -70,12 +70,12 @@ RegistersShown =
     ∷ 0x3f ∷ 0x1f ∷ 0xff ∷ 0x7f ∷ 0x7f ∷ 0x3f ∷ 0xff ∷ 0x3f ∷ replicate 8 0)
     -- F14, F15, F16, F18, C4. every register read with all made bits: 12/24 in both alarms' hours, OSCON, a leap year
     × (replies 1 (0x13 ∷ 0x00 ∷ []) (replicate 32 0)
-    (scene (0x00 ∷ 0x80 ∷ 0x00 ∷ 0xc0 ∷ 0x01 ∷ 0x01 ∷ 0x01 ∷ 0x24 ∷ 0xcf ∷ 0x55 ∷ 0x08 ∷ 0xaa ∷ replicate 20 0) (counts 0 32 0 0 0))
-    ≡ drivenAll (0x00 ∷ 0x80 ∷ 0x00 ∷ 0xc0 ∷ 0x21 ∷ 0x01 ∷ 0x21 ∷ 0x24 ∷ 0xcf ∷ 0x55 ∷ 0x08 ∷ 0xaa ∷ 0x00 ∷ 0x00 ∷ 0x40 ∷ 0x00
+    (scene (0x00 ∷ 0x80 ∷ 0x00 ∷ 0xc0 ∷ 0x01 ∷ 0x01 ∷ 0x02 ∷ 0x24 ∷ 0xcf ∷ 0x55 ∷ 0x08 ∷ 0xaa ∷ replicate 20 0) (counts 0 32 0 0 0))
+    ≡ drivenAll (0x00 ∷ 0x80 ∷ 0x00 ∷ 0xc0 ∷ 0x21 ∷ 0x01 ∷ 0x22 ∷ 0x24 ∷ 0xcf ∷ 0x55 ∷ 0x08 ∷ 0xaa ∷ 0x00 ∷ 0x00 ∷ 0x40 ∷ 0x00
     ∷ 0x00 ∷ 0x00 ∷ 0x00 ∷ 0x00 ∷ 0x00 ∷ 0x40 ∷ replicate 10 0))
     -- F14, F15, F16, F18. and with none: OSCON one tick away, a year that is no leap year
-    × (replies 1 (0x13 ∷ 0x00 ∷ []) (replicate 32 0) (scene (0x00 ∷ 0x80 ∷ 0x00 ∷ 0x80 ∷ 0x01 ∷ 0x01 ∷ 0x01 ∷ 0x25 ∷ replicate 24 0) (counts 0 31 0 0 0))
-    ≡ drivenAll (0x00 ∷ 0x80 ∷ 0x00 ∷ 0x80 ∷ 0x01 ∷ 0x01 ∷ 0x01 ∷ 0x25 ∷ replicate 24 0))
+    × (replies 1 (0x13 ∷ 0x00 ∷ []) (replicate 32 0) (scene (0x00 ∷ 0x80 ∷ 0x00 ∷ 0x80 ∷ 0x02 ∷ 0x01 ∷ 0x02 ∷ 0x25 ∷ replicate 24 0) (counts 0 31 0 0 0))
+    ≡ drivenAll (0x00 ∷ 0x80 ∷ 0x00 ∷ 0x80 ∷ 0x02 ∷ 0x01 ∷ 0x02 ∷ 0x25 ∷ replicate 24 0))
     -- F10. the SRAM from its first byte to its last, and round
     × (after 1 (frameOf (0x12 ∷ 0x5e ∷ 1 ∷ 2 ∷ 3 ∷ [])) busy .device .sram ≡ 3 ∷ (replicate 61 7 ++ (1 ∷ 2 ∷ [])))
     -- F11. from 60h up a read gives 0, a write does nothing, and the pointer stands
@@ -98,15 +98,20 @@ inCycle = lent (withCycle (chip started (counts 0 32 0 0 0)) (record { target = 
 
 -- memories with something at both ends
 abbrev pub ends : World
-ends = world (chip started (counts 0 32 0 0 0)) (set (set (replicate 128 255) 127 8) 0 9) (set (set (replicate 16 255) 15 6) 0 5)
+ends =
+    world (chip started (counts 0 32 0 0 0)) (set (set (set (replicate 128 255) 126 7) 127 8) 0 9) (set (set (set (replicate 16 255) 14 4) 15 6) 0 5)
+
+-- the number and the count of an outcome
+abbrev pub numbered : Outcome → List ℕ
+numbered o = o .number ∷ o .count ∷ []
 
 unfoldable pub FramesShown : Type 0
 FramesShown =
-    -- F3, F4, F7, F8. EEREAD: none for code and address, then the last byte and the first; address bit 7 does not count on 1 Kbit
-    (replies 1 [] (0x03 ∷ 0x7f ∷ 0 ∷ 0 ∷ []) ends ≡ Off ∷ Off ∷ Driven 8 ∷ Driven 9 ∷ [])
+    -- F3, F4, F7, F8. EEREAD: none for code and address, then the last two bytes and the first; address bit 7 does not count on 1 Kbit
+    (replies 1 [] (0x03 ∷ 0x7e ∷ 0 ∷ 0 ∷ 0 ∷ []) ends ≡ Off ∷ Off ∷ Driven 7 ∷ Driven 8 ∷ Driven 9 ∷ [])
     × (replies 1 [] (0x03 ∷ 0xff ∷ 0 ∷ 0 ∷ []) ends ≡ Off ∷ Off ∷ Driven 8 ∷ Driven 9 ∷ [])
-    -- F3, F4, F9. IDREAD: from 0Fh to 00h, the address by its remainder
-    × (replies 1 [] (0x33 ∷ 0x0f ∷ 0 ∷ 0 ∷ []) ends ≡ Off ∷ Off ∷ Driven 6 ∷ Driven 5 ∷ [])
+    -- F3, F4, F9. IDREAD: to 0Fh and on to 00h, the address by its remainder
+    × (replies 1 [] (0x33 ∷ 0x0e ∷ 0 ∷ 0 ∷ 0 ∷ []) ends ≡ Off ∷ Off ∷ Driven 4 ∷ Driven 6 ∷ Driven 5 ∷ [])
     × (replies 1 [] (0x33 ∷ 0x1f ∷ 0 ∷ 0 ∷ []) ends ≡ Off ∷ Off ∷ Driven 6 ∷ Driven 5 ∷ [])
     -- F3. READ and SRREAD
     × (replies 1 [] (0x13 ∷ 0x01 ∷ 0 ∷ []) ends ≡ Off ∷ Off ∷ Driven 0x80 ∷ [])
@@ -137,10 +142,14 @@ FramesShown =
     × (after 1 (frameOf (0x44 ∷ 0x99 ∷ [])) busy ≡ scene busyRegs (counts 5 32 0 7 8))
     × (after 1 (frameOf (0x44 ∷ 0x99 ∷ 0x99 ∷ [])) busy ≡ busy)
     × (after 1 (raggedFrame 7 (0x44 ∷ [])) busy ≡ busy)
-    -- A5. select, end and up have no reply, and count nothing
-    × (performed 1 Select 0 busy .reply ≡ Off) × (performed 1 Select 0 busy .count ≡ 0)
-    × (performed 1 End 0 (performed 1 Select 0 busy .after) .reply ≡ Off) × (performed 1 End 0 (performed 1 Select 0 busy .after) .count ≡ 0)
-    × (performed 1 Up 0 (performed 1 Cut 0 busy .after) .reply ≡ Off) × (performed 1 Up 0 (performed 1 Cut 0 busy .after) .count ≡ 0)
+    -- A5, A6, A7, A34. reply, number and count of each act, and of one that is refused
+    × (performed 1 Select 0 busy .reply ≡ Off) × (numbered (performed 1 Select 0 busy) ≡ 0 ∷ 0 ∷ [])
+    × (numbered (performed 1 Byte 0x13 (performed 1 Select 0 busy .after)) ≡ 0 ∷ 0 ∷ [])
+    × (performed 1 End 0 (performed 1 Select 0 busy .after) .reply ≡ Off) × (numbered (performed 1 End 0 (performed 1 Select 0 busy .after)) ≡ 0 ∷ 0 ∷ [])
+    × (performed 1 Wait 1 busy .reply ≡ Off) × (numbered (performed 1 Wait 1 busy) ≡ 0 ∷ 1 ∷ [])
+    × (performed 1 Cut 0xff busy .reply ≡ Off) × (numbered (performed 1 Cut 0xff busy) ≡ 0 ∷ 0 ∷ [])
+    × (performed 1 Up 0 (performed 1 Cut 0 busy .after) .reply ≡ Off) × (numbered (performed 1 Up 0 (performed 1 Cut 0 busy .after)) ≡ 0 ∷ 0 ∷ [])
+    × (performed 1 Byte 0x13 busy .reply ≡ Off) × (numbered (performed 1 Byte 0x13 busy) ≡ 2 ∷ 0 ∷ []) × (performed 1 Byte 0x13 busy .after ≡ busy)
 
 -- a cycle with three of eight offsets loaded, 3 ticks before its end
 abbrev pub loaded : Target → World
@@ -194,6 +203,6 @@ pub acts-shown : ActsShown
 unfolding ActsShown RegistersShown FramesShown PowerShown validField after replies bytesAnswered afterBytes drivenAll leapYear worldAfter ourChip sent fresh performed refusalOf outOfRange clockOut frameOut cycleOut powerOut bitOutside every statusByte afterSelect afterByte nextReply readClock writeClock afterWrite afterEnd carried cycleAfter welAfter afterCut cutCount cutWorld afterUp waitedBy tick cycleTick cycleDevice clockwork changed irqLow wdoLow oscillatorTick watchdogTick calendarTick storeUnder members
 acts-shown = (
   (refl, refl, refl, refl, refl, refl, refl, refl, refl, refl, refl, refl, refl, refl, refl),
-  (refl, refl, refl, refl, refl, refl, refl, refl, refl, refl, refl, refl, refl, refl, refl, refl, refl, refl, refl, refl, refl, refl, refl, refl, refl, refl, refl, refl, refl, refl, refl, refl),
+  (refl, refl, refl, refl, refl, refl, refl, refl, refl, refl, refl, refl, refl, refl, refl, refl, refl, refl, refl, refl, refl, refl, refl, refl, refl, refl, refl, refl, refl, refl, refl, refl, refl, refl, refl, refl, refl, refl, refl, refl),
   (refl, refl, refl, refl, refl, refl, refl, refl, refl, refl, refl, refl, refl, refl, refl, refl, refl, refl, refl, refl, refl, refl, refl, refl, refl, refl),
 )
