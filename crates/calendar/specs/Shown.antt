@@ -50,8 +50,8 @@ CalendarShown =
     × (walk nextSeconds 2 0x08 ≡ 0x09 ∷ 0 ∷ 0x10 ∷ 0 ∷ [])
     -- K7. what is valid: within the limits and not, decimal and not
     × (passed validHundredths (0x00 ∷ 0x99 ∷ 0x9a ∷ 0xa0 ∷ []) ≡ 1 ∷ 1 ∷ 0 ∷ 0 ∷ [])
-    × (passed validSeconds (0x00 ∷ 0x59 ∷ 0xd9 ∷ 0x5a ∷ 0x60 ∷ 0xe0 ∷ []) ≡ 1 ∷ 1 ∷ 1 ∷ 0 ∷ 0 ∷ 0 ∷ [])
-    × (passed validHours (0x00 ∷ 0x23 ∷ 0xa3 ∷ 0x24 ∷ 0x1a ∷ 0x41 ∷ 0x52 ∷ 0x72 ∷ 0xf2 ∷ 0x40 ∷ 0x53 ∷ 0x73 ∷ []) ≡ 1 ∷ 1 ∷ 1 ∷ 0 ∷ 0 ∷ 1 ∷ 1 ∷ 1 ∷ 1 ∷ 0 ∷ 0 ∷ 0 ∷ [])
+    × (passed validSeconds (0x00 ∷ 0x59 ∷ 0x80 ∷ 0xd9 ∷ 0x5a ∷ 0x60 ∷ 0xe0 ∷ []) ≡ 1 ∷ 1 ∷ 1 ∷ 1 ∷ 0 ∷ 0 ∷ 0 ∷ [])
+    × (passed validHours (0x00 ∷ 0x23 ∷ 0x80 ∷ 0xa3 ∷ 0x24 ∷ 0x1a ∷ 0x41 ∷ 0x52 ∷ 0x72 ∷ 0xf2 ∷ 0x40 ∷ 0x53 ∷ 0x73 ∷ []) ≡ 1 ∷ 1 ∷ 1 ∷ 1 ∷ 0 ∷ 0 ∷ 1 ∷ 1 ∷ 1 ∷ 1 ∷ 0 ∷ 0 ∷ 0 ∷ [])
     × (passed validDay (0 ∷ 1 ∷ 7 ∷ 8 ∷ []) ≡ 0 ∷ 1 ∷ 1 ∷ 0 ∷ [])
     × (passed validMonth (0x00 ∷ 0x01 ∷ 0x0a ∷ 0x12 ∷ 0x13 ∷ []) ≡ 0 ∷ 1 ∷ 0 ∷ 1 ∷ 0 ∷ [])
     × (passed validYear (0x00 ∷ 0x99 ∷ 0x9a ∷ 0xa0 ∷ []) ≡ 1 ∷ 1 ∷ 0 ∷ 0 ∷ [])
@@ -77,8 +77,10 @@ CalendarShown =
     × (dayAfter 0x01 0x31 0x12 0xa0 ≡ 0x02 ∷ 0x01 ∷ 0x01 ∷ 0x00 ∷ [])
     -- K9. what stands beside day, date and month stays
     × (dayAfter 0xff 0xf1 0xf2 0x99 ≡ 0xf9 ∷ 0xc1 ∷ 0xe1 ∷ 0x00 ∷ [])
+    × (dayAfter 0xf9 0xc5 0xe6 0x26 ≡ 0xfa ∷ 0xc6 ∷ 0xe6 ∷ 0x26 ∷ [])
+    × (dayAfter 0x09 0xf0 0xe4 0x26 ≡ 0x0a ∷ 0xc1 ∷ 0xe5 ∷ 0x26 ∷ [])
 
 -- Each of them computes.
 pub calendar-shown : CalendarShown
 unfolding CalendarShown validField nextField validHours firstHours nextHours leapYear monthLength nextDate dateOf withDate onDay advanced
-calendar-shown = (refl, refl, refl, refl, refl, refl, refl, refl, refl, refl, refl, refl, refl, refl, refl, refl, refl, refl, refl, refl, refl, refl, refl, refl, refl, refl, refl, refl, refl, refl, refl, refl, refl, refl, refl, refl, refl, refl)
+calendar-shown = (refl, refl, refl, refl, refl, refl, refl, refl, refl, refl, refl, refl, refl, refl, refl, refl, refl, refl, refl, refl, refl, refl, refl, refl, refl, refl, refl, refl, refl, refl, refl, refl, refl, refl, refl, refl, refl, refl, refl, refl)

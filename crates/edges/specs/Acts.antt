@@ -14,6 +14,8 @@ use Rattle.record.specs.declared.Act.the-variants.{Select, Byte, End, Wait, Cut
 use Rattle.record.specs.declared.Reply.{Reply}
 use Rattle.record.specs.declared.Reply.the-variants.{Driven, Off}
 use Rattle.record.specs.declared.Protection.{Protection}
+use Rattle.record.specs.declared.Lock.the-variants.{Closed}
+use Rattle.record.specs.declared.Stage.the-variants.{Idle}
 use Rattle.record.specs.declared.Protection.the-variants.{Nothing, Quarter, Half, All}
 use Rattle.record.specs.declared.Target.{Target}
 use Rattle.record.specs.declared.Target.the-variants.{Eeprom, Id, Status}
@@ -94,7 +96,7 @@ RegistersShown =
 
 -- a chip in a write cycle
 abbrev pub inCycle : World
-inCycle = lent (withCycle (chip started (counts 0 32 0 0 0)) (record { target = Eeprom (record { 0 = 0 }); left = 9 }))
+inCycle = lent (withCycle (chip started (counts 0 32 6 0 0)) (record { target = Eeprom (record { 0 = 0 }); left = 9 }))
 
 -- memories with something at both ends
 abbrev pub ends : World
@@ -125,12 +127,14 @@ FramesShown =
     × (after 1 (frameOf (0xff ∷ 0x20 ∷ 1 ∷ [])) busy ≡ busy)
     -- A3. no time passes in a frame
     × (after 1 (frameOf (0x13 ∷ 0x00 ∷ replicate 40 0)) busy ≡ busy)
-    -- F31, F32. in a cycle: EEREAD is not heard, nor an enable; READ, SRREAD and WRITE are
+    -- F31, F32. in a cycle: EEREAD is not heard, nor an enable; READ, SRREAD, WRITE, CLRRAM and CLRWDT are
     × (replies 1 [] (0x03 ∷ 0x00 ∷ 0 ∷ []) inCycle ≡ Off ∷ Off ∷ Off ∷ [])
     × (replies 1 [] (0x13 ∷ 0x01 ∷ 0 ∷ []) inCycle ≡ Off ∷ Off ∷ Driven 0x80 ∷ [])
     × (replies 1 [] (0x05 ∷ 0 ∷ []) inCycle ≡ Off ∷ Driven 0x01 ∷ [])
     × (after 1 (frameOf (0x06 ∷ [])) inCycle ≡ inCycle)
     × (after 1 (frameOf (0x12 ∷ 0x20 ∷ 1 ∷ [])) inCycle .device .sram ≡ 1 ∷ replicate 63 7)
+    × (after 1 (frameOf (0x54 ∷ [])) inCycle .device .sram ≡ replicate 64 0)
+    × (after 1 (frameOf (0x44 ∷ [])) inCycle .device .counters ≡ counts 0 32 0 0 0)
     -- F20. CLRRAM with one byte or two, no bit left over
     × (after 1 (frameOf (0x54 ∷ [])) busy .device .sram ≡ replicate 64 0)
     × (after 1 (frameOf (0x54 ∷ 0x99 ∷ [])) busy .device .sram ≡ replicate 64 0)
@@ -151,10 +155,10 @@ FramesShown =
     × (performed 1 Up 0 (performed 1 Cut 0 busy .after) .reply ≡ Off) × (numbered (performed 1 Up 0 (performed 1 Cut 0 busy .after)) ≡ 0 ∷ 0 ∷ [])
     × (performed 1 Byte 0x13 busy .reply ≡ Off) × (numbered (performed 1 Byte 0x13 busy) ≡ 2 ∷ 0 ∷ []) × (performed 1 Byte 0x13 busy .after ≡ busy)
 
--- a cycle with three of eight offsets loaded, 3 ticks before its end
+-- a cycle with three of eight offsets loaded, before its last tick
 abbrev pub loaded : Target → World
 loaded t =
-    lent (withLoad (withWel (withCycle (chip started (counts 0 32 0 0 0)) (record { target = t; left = 3 })) true) (record { offsets = 0x07; bytes = 1 ∷ 2 ∷ 3 ∷ replicate 5 0; next = 3 }))
+    lent (withLoad (withWel (withCycle (chip started (counts 0 32 0 0 0)) (record { target = t; left = 1 })) true) (record { offsets = 0x07; bytes = 1 ∷ 2 ∷ 3 ∷ replicate 5 0; next = 3 }))
 
 -- without VBATEN, and with a time-out pulse and a delay
 abbrev pub unbattered : World
@@ -188,12 +192,23 @@ PowerShown =
     × (performed 1 Cut 0 unbattered .after .device .sram ≡ replicate 64 0)
     × (performed 1 Cut 0 unbattered .after .device .counters ≡ counts 0 0 0 0 0)
     × (performed 1 Wait 5 (performed 1 Cut 0 unbattered .after) .count ≡ 5)
-    × (performed 1 Wait 5 (performed 3 Cut 0 unbattered .after) .after ≡ performed 3 Cut 0 unbattered .after)
+    × (performed 1 Wait 5 (performed 1 Cut 0 unbattered .after) .after ≡ performed 1 Cut 0 unbattered .after)
+    -- A1. power goes and comes
+    × (performed 1 Cut 0 busy .after .device .power ≡ false)
+    × (performed 1 Up 0 (performed 1 Cut 0 busy .after) .after .device .power ≡ true)
+    -- F28. the last tick of a cycle stores what is loaded, or moves the protection, and clears WEL; the wait stops there
+    × (performed 1 Wait 9 (loaded (Eeprom (record { 0 = 0x10 }))) .count ≡ 1)
+    × (performed 1 Wait 9 (loaded (Eeprom (record { 0 = 0x10 }))) .after .eeprom ≡ set (set (set (replicate 128 255) 0x10 1) 0x11 2) 0x12 3)
+    × (performed 1 Wait 9 (loaded (Id (record { 0 = 8 }))) .after .id ≡ set (set (set (replicate 16 255) 8 1) 9 2) 10 3)
+    × (performed 1 Wait 9 (loaded (Status Half)) .after .device .guard ≡ record { wel = false; protection = Half; lock = Closed })
     -- A35, A36. a fresh chip
     × (fresh .regs ≡ 0 ∷ 0 ∷ 0 ∷ 0 ∷ 1 ∷ 1 ∷ 1 ∷ replicate 25 0)
     × (fresh .sram ≡ replicate 64 0)
     × (fresh .counters ≡ counts 0 0 0 0 0)
     × (fresh .power ≡ true)
+    × (fresh .guard ≡ record { wel = false; protection = Nothing; lock = Closed })
+    × (fresh .frame .stage ≡ Idle)
+    × (fresh .cycle .left ≡ 0)
 
 unfoldable pub ActsShown : Type 0
 ActsShown = RegistersShown × FramesShown × PowerShown
@@ -203,6 +218,6 @@ pub acts-shown : ActsShown
 unfolding ActsShown RegistersShown FramesShown PowerShown validField after replies bytesAnswered afterBytes drivenAll leapYear worldAfter ourChip sent fresh performed refusalOf outOfRange clockOut frameOut cycleOut powerOut bitOutside every statusByte afterSelect afterByte nextReply readClock writeClock afterWrite afterEnd carried cycleAfter welAfter afterCut cutCount cutWorld afterUp waitedBy tick cycleTick cycleDevice clockwork changed irqLow wdoLow oscillatorTick watchdogTick calendarTick storeUnder members
 acts-shown = (
   (refl, refl, refl, refl, refl, refl, refl, refl, refl, refl, refl, refl, refl, refl, refl),
-  (refl, refl, refl, refl, refl, refl, refl, refl, refl, refl, refl, refl, refl, refl, refl, refl, refl, refl, refl, refl, refl, refl, refl, refl, refl, refl, refl, refl, refl, refl, refl, refl, refl, refl, refl, refl, refl, refl, refl, refl),
-  (refl, refl, refl, refl, refl, refl, refl, refl, refl, refl, refl, refl, refl, refl, refl, refl, refl, refl, refl, refl, refl, refl, refl, refl, refl, refl),
+  (refl, refl, refl, refl, refl, refl, refl, refl, refl, refl, refl, refl, refl, refl, refl, refl, refl, refl, refl, refl, refl, refl, refl, refl, refl, refl, refl, refl, refl, refl, refl, refl, refl, refl, refl, refl, refl, refl, refl, refl, refl, refl),
+  (refl, refl, refl, refl, refl, refl, refl, refl, refl, refl, refl, refl, refl, refl, refl, refl, refl, refl, refl, refl, refl, refl, refl, refl, refl, refl, refl, refl, refl, refl, refl, refl, refl, refl, refl),
 )
