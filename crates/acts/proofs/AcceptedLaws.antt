@@ -43,8 +43,8 @@ pub record Suits (d : Device) (ee id : ℕ) : Type 0 where
 pub suits : (part : ℕ) (act : Act) (n : ℕ) (d : Device) (ee id : ℕ) → refusalOf part act n d ee id ≡ 0 → Suits d ee id
 suits part act n d ee id e =
     let a : Accepted part act n d ee id = accepted part act n d ee id e in
-    let r : InRange part d = in-range part d (a .ranged) in
-    rw (a .eeprom, a .ids)
+    let r : InRange part d = in-range part d (a .setup .ranged) in
+    rw (a .setup .eeprom, a .setup .ids)
     (record {
       frameEeprom = r .frame .place .eeprom;
       frameId = r .frame .place .id;

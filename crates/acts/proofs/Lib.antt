@@ -1,4 +1,5 @@
 pub mod AcceptedLaws
+pub mod SuitedLaws
 pub mod ValidLaws
 pub mod PageLaws
 pub mod OutcomeLaws

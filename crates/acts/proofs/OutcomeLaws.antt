@@ -4,7 +4,7 @@ use mathlib.Core.Path.{_≡_, refl, sym, ap, subst, _∙_}
 use mathlib.Core.Bool.{Bool, false, not}
 use Prim.Native.Nat.{ℕ, _<_}
 use native.Mathlib.Omega.{arith}
-use borrow.Author.Tests.{eqb-true, eq-eqb}
+use borrow.Author.Tests.{eqb-true, eq-eqb, ne-eqb}
 use lib.Dec.{eqb}
 use lib.ListN.{length}
 use Rattle.base.proofs.Tests.{by-cases, pick-case, yes, no}
@@ -38,6 +38,12 @@ pub by-acceptance :
     (part : ℕ) (act : Act) (arg : ℕ) (w : World) → refusalIn part act arg w ≡ 0 → performed part act arg w ≡ accepted part arg w act
 unfolding performed
 by-acceptance part act arg w e = sym (yes (accepted part arg w act) (refused (refusalIn part act arg w) w) (eq-eqb _ _ e))
+
+-- a number of the table answers as the code has it
+pub refused-by :
+    (part : ℕ) (act : Act) (arg : ℕ) (w : World) (k : ℕ) → k ≡ refusalIn part act arg w → (k ≡ 0 → ⊥) → refused k w ≡ performed part act arg w
+refused-by part act arg w k e h =
+    ap (λ (n : ℕ). refused n w) e ∙ sym (by-refusal part act arg w (ne-eqb _ 0 (λ z. h (e ∙ z))))
 
 -- every act is answered with the table's number, refused or not
 pub answered-by-table : (part : ℕ) (act : Act) (arg : ℕ) (w : World) → performed part act arg w .number ≡ refusalIn part act arg w

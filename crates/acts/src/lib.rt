@@ -7,7 +7,7 @@ ghost use Prim.Native.Nat.{_+_, _≤_};
 ghost use lib.ListN.{length};
 ghost use Rattle.record.specs.Address.{pageOf};
 ghost use Rattle.record.specs.Stages.{cyclePlace, eepromPointer, idPointer};
-ghost use Rattle.refusals.specs.Refusal.{refusalOf};
+ghost use Rattle.refusals.specs.Refusal.{refusalOf, setupRefusal};
 ghost use Rattle.record.specs.World.{world};
 ghost use Rattle.ticks.specs.Tick.{waited};
 ghost use Rattle.power.specs.Power.{cutCount, cutWorld};
@@ -107,13 +107,32 @@ fn accepted_act(
     }
 }
 
-// One act. Part and argument are any numbers; a refused act changes nothing.
-pub fn perform(part: u64, act: Act, arg: u64, d: Device, eeprom: &mut [u8], id: &mut [u8]) -> Answer
+// One act on a part, a record and memories that no row of the table refuses. A refused act changes nothing.
+pub fn perform_in_range(
+    part: u64,
+    act: Act,
+    arg: u64,
+    d: Device,
+    eeprom: &mut [u8],
+    id: &mut [u8],
+) -> Answer
+    requires { ⌜ setupRefusal part d (length (now eeprom)) (length (now id)) ≡ 0 ⌝ }
     ensures { λ r. ⌜ outcomeOf r (now (eeprom .exit)) (now (id .exit)) ≡ performed part act arg (world d (now (eeprom .entry)) (now (id .entry))) ⌝ }
 {
-    let refusal = refusals::refusal(part, act, arg, d, eeprom.len(), id.len());
+    let refusal = refusals::act_refusal(act, arg, d);
     if refusal != 0 {
         return silent(refusal, 0, d);
     }
     accepted_act(part, act, arg, d, eeprom, id)
+}
+
+// One act. Part and argument are any numbers; a refused act changes nothing.
+pub fn perform(part: u64, act: Act, arg: u64, d: Device, eeprom: &mut [u8], id: &mut [u8]) -> Answer
+    ensures { λ r. ⌜ outcomeOf r (now (eeprom .exit)) (now (id .exit)) ≡ performed part act arg (world d (now (eeprom .entry)) (now (id .entry))) ⌝ }
+{
+    let refusal = refusals::setup_refusal(part, d, eeprom.len(), id.len());
+    if refusal != 0 {
+        return silent(refusal, 0, d);
+    }
+    perform_in_range(part, act, arg, d, eeprom, id)
 }

@@ -24,7 +24,7 @@ use Rattle.record.specs.Setters.{withPower, withStage}
 use Rattle.record.specs.Stages.{selected}
 use Rattle.record.proofs.StageLaws.{idle, not-idle}
 use Rattle.refusals.specs.Range.{clockOut, frameOut, cycleOut, powerOut, bitOutside, outOfRange}
-use Rattle.refusals.specs.Refusal.{wrongLength, wrongArg, wrongPower, wrongSelect, refusalOf}
+use Rattle.refusals.specs.Refusal.{wrongLength, wrongArg, wrongPower, wrongSelect, firstRefusal, refusalOf, setupRefusal, actRefusal}
 use Rattle.refusals.specs.Rows.{PartRow, LengthRow, RangeRow, ArgRow, leftover, wait, byte, mask, select, up, PowerRow, select-off, byte-off, end-off, cut-off, up-on, SelectedRow, select-again, NotSelectedRow, byte-alone, end-alone, Row, table, First, TableGives}
 use Rattle.refusals.proofs.RangeLaws.{range-row}
 
@@ -153,12 +153,65 @@ exactly part act n d ee id k = (
   λ a. first-once (table part act n d ee id) (refusalOf part act n d ee id) k (answered part act n d ee id) a,
 )
 
--- what an act that is answered 0 has passed, as the tests of the chain
-pub record Accepted (part : ℕ) (act : Act) (n : ℕ) (d : Device) (ee id : ℕ) : Type 0 where
+-- what a setup has passed where no row of it holds, whatever comes after these rows
+pub record Suited (part : ℕ) (d : Device) (ee id : ℕ) : Type 0 where
   pub known : isPart part ≡ true
   pub eeprom : ee ≡ sizeOf part
   pub ids : id ≡ idSize
   pub ranged : outOfRange part d ≡ false
+
+suited :
+    (part : ℕ) (d : Device) (ee id x : ℕ) → pick (not (isPart part)) 3 (pick (wrongLength part ee id) 4 (pick (outOfRange part d) 6 x)) ≡ 0
+    → Suited part d ee id × (x ≡ 0)
+suited part d ee id x e =
+    let r₁ = row (not (isPart part)) 3 _ (lit< tt) e in
+    let r₂ = row (wrongLength part ee id) 4 _ (lit< tt) (r₁ .1) in
+    let r₃ = row (outOfRange part d) 6 _ (lit< tt) (r₂ .1) in
+    let l = not (eqb ee (sizeOf part)) in
+    let m = not (eqb id idSize) in (
+      record {
+        known = not-false (isPart part) (r₁ .0);
+        eeprom = eqb-true ee (sizeOf part) (not-false _ (neither-left l m (r₂ .0)));
+        ids = eqb-true id idSize (not-false _ (neither-right l m (r₂ .0)));
+        ranged = r₃ .0;
+      },
+      r₃ .1,
+    )
+
+pub setup-passed : (part : ℕ) (d : Device) (ee id : ℕ) → setupRefusal part d ee id ≡ 0 → Suited part d ee id
+unfolding setupRefusal
+setup-passed part d ee id e = suited part d ee id 0 e .0
+
+pub setup-passes : (part : ℕ) (d : Device) (ee id : ℕ) → Suited part d ee id → setupRefusal part d ee id ≡ 0
+unfolding setupRefusal
+setup-passes part d ee id s = simp (s .known, eq-eqb ee (sizeOf part) (s .eeprom), eq-eqb id idSize (s .ids), s .ranged)
+
+-- the chain in two steps: a row of the setup answers, else one of the act
+pub by-setup :
+    (part : ℕ) (act : Act) (n : ℕ) (d : Device) (ee id : ℕ) → (setupRefusal part d ee id ≡ 0 → ⊥)
+    → setupRefusal part d ee id ≡ refusalOf part act n d ee id
+unfolding setupRefusal refusalOf
+by-setup part act n d ee id h =
+    three (not (isPart part)) (wrongLength part ee id) (outOfRange part d) (wrongArg act n) (wrongPower act (d .power))
+    (wrongSelect act (selected (d .frame .stage))) h
+  where
+    three : (a b c r s : Bool) (x : ℕ) → (firstRefusal a b c false false 0 ≡ 0 → ⊥) → firstRefusal a b c false false 0 ≡ firstRefusal a b c r s x
+    three true b c r s x h = refl
+    three false true c r s x h = refl
+    three false false true r s x h = refl
+    three false false false r s x h = absurd (h refl)
+
+pub by-act :
+    (part : ℕ) (act : Act) (n : ℕ) (d : Device) (ee id : ℕ) → setupRefusal part d ee id ≡ 0
+    → refusalOf part act n d ee id ≡ actRefusal act n d
+unfolding refusalOf actRefusal
+by-act part act n d ee id e =
+    let s = setup-passed part d ee id e in
+    simp (s .known, eq-eqb ee (sizeOf part) (s .eeprom), eq-eqb id idSize (s .ids), s .ranged)
+
+-- what an act that is answered 0 has passed, as the tests of the chain
+pub record Accepted (part : ℕ) (act : Act) (n : ℕ) (d : Device) (ee id : ℕ) : Type 0 where
+  pub setup : Suited part d ee id
   pub arg : wrongArg act n ≡ false
   pub power : wrongPower act (d .power) ≡ false
   pub select : wrongSelect act (selected (d .frame .stage)) ≡ 0
@@ -166,27 +219,17 @@ pub record Accepted (part : ℕ) (act : Act) (n : ℕ) (d : Device) (ee id : ℕ
 pub accepted : (part : ℕ) (act : Act) (n : ℕ) (d : Device) (ee id : ℕ) → refusalOf part act n d ee id ≡ 0 → Accepted part act n d ee id
 unfolding refusalOf
 accepted part act n d ee id e =
-    let r₁ = row (not (isPart part)) 3 _ (lit< tt) e in
-    let r₂ = row (wrongLength part ee id) 4 _ (lit< tt) (r₁ .1) in
-    let r₃ = row (outOfRange part d) 6 _ (lit< tt) (r₂ .1) in
-    let r₄ = row (wrongArg act n) 3 _ (lit< tt) (r₃ .1) in
+    let s = suited part d ee id _ e in
+    let r₄ = row (wrongArg act n) 3 _ (lit< tt) (s .1) in
     let r₅ = row (wrongPower act (d .power)) 5 _ (lit< tt) (r₄ .1) in
-    let l = not (eqb ee (sizeOf part)) in
-    let m = not (eqb id idSize) in
-    record {
-      known = not-false (isPart part) (r₁ .0);
-      eeprom = eqb-true ee (sizeOf part) (not-false _ (neither-left l m (r₂ .0)));
-      ids = eqb-true id idSize (not-false _ (neither-right l m (r₂ .0)));
-      ranged = r₃ .0;
-      arg = r₄ .0;
-      power = r₅ .0;
-      select = r₅ .1;
-    }
+    record { setup = s .0; arg = r₄ .0; power = r₅ .0; select = r₅ .1 }
 
 -- and the other way
 pub passed : (part : ℕ) (act : Act) (n : ℕ) (d : Device) (ee id : ℕ) → Accepted part act n d ee id → refusalOf part act n d ee id ≡ 0
 unfolding refusalOf
-passed part act n d ee id a = simp (a .known, eq-eqb ee (sizeOf part) (a .eeprom), eq-eqb id idSize (a .ids), a .ranged, a .arg, a .power, a .select)
+passed part act n d ee id a =
+    let s = a .setup in
+    simp (s .known, eq-eqb ee (sizeOf part) (s .eeprom), eq-eqb id idSize (s .ids), s .ranged, a .arg, a .power, a .select)
 
 -- an act is answered 0 exactly when no row holds
 pub done :
@@ -196,9 +239,9 @@ pub done :
 unfolding First
 done part act n d ee id = (
   λ e. let a = accepted part act n d ee id e in (
-    λ r. true-false (a .known) (not-true (isPart part) (part-row part .1 r)),
+    λ r. true-false (a .setup .known) (not-true (isPart part) (part-row part .1 r)),
     λ r. true-false (length-row part ee id .1 r) (lengths e),
-    λ r. true-false (range-row part d .1 r) (a .ranged),
+    λ r. true-false (range-row part d .1 r) (a .setup .ranged),
     λ r. true-false (arg-given r) (a .arg),
     λ r. true-false (power-given r) (a .power),
     λ r. omega (arith, a .select, selected-given r),
@@ -208,7 +251,7 @@ done part act n d ee id = (
 )
   where
     lengths : refusalOf part act n d ee id ≡ 0 → wrongLength part ee id ≡ false
-    lengths e = let a = accepted part act n d ee id e in simp (eq-eqb ee (sizeOf part) (a .eeprom), eq-eqb id idSize (a .ids))
+    lengths e = let s = accepted part act n d ee id e .setup in simp (eq-eqb ee (sizeOf part) (s .eeprom), eq-eqb id idSize (s .ids))
 
 -- a record on which an act is accepted: fresh, with a frame opened for byte and end, with power off for up
 abbrev pub readyWith : Bool → Stage → Device

@@ -54,3 +54,12 @@ unfoldable pub refusalOf : ℕ → Act → ℕ → Device → ℕ → ℕ → �
 refusalOf part act arg d ee id =
     firstRefusal (not (isPart part)) (wrongLength part ee id) (outOfRange part d) (wrongArg act arg) (wrongPower act (d .power))
     (wrongSelect act (selected (d .frame .stage)))
+
+-- the rows that are judged whatever the act is: 3 for the part, 4, 6; 0 where none of them holds
+unfoldable pub setupRefusal : ℕ → Device → ℕ → ℕ → ℕ
+setupRefusal part d ee id = firstRefusal (not (isPart part)) (wrongLength part ee id) (outOfRange part d) false false 0
+
+-- the rows of the act, where none of those holds: 3 for the argument, 5, then 1 or 2
+unfoldable pub actRefusal : Act → ℕ → Device → ℕ
+actRefusal act arg d =
+    firstRefusal false false false (wrongArg act arg) (wrongPower act (d .power)) (wrongSelect act (selected (d .frame .stage)))

@@ -1,11 +1,12 @@
-// The refusal table: the number that answers an act, or 0. It performs nothing.
+// The refusal table: the number that answers an act, or 0, in two steps: what is wrong with part, memories and record, and what is wrong with the
+// act. It performs nothing.
 use record::Act;
 use record::Device;
 use record::part;
 use record::registers::WAIT_LIMIT;
 use record::stages;
 ghost use mathlib.Core.Path.{_≡_};
-ghost use Rattle.refusals.specs.Refusal.{wrongLength, wrongArg, wrongPower, wrongSelect, firstRefusal, refusalOf};
+ghost use Rattle.refusals.specs.Refusal.{wrongLength, wrongArg, wrongPower, wrongSelect, firstRefusal, setupRefusal, actRefusal};
 
 pub mod range; // range.rt: number 6
 
@@ -80,18 +81,25 @@ pub fn first_refusal(part: bool, length: bool, range: bool, arg: bool, power: bo
     last
 }
 
-// The number that answers an act on a record, with an EEPROM and an ID memory of these lengths.
-pub fn refusal(part: u64, act: Act, arg: u64, d: Device, eeprom: usize, id: usize) -> u8
-    ensures { λ r. ⌜ r ≡ refusalOf part act arg d eeprom id ⌝ }
+// What is wrong whatever the act is: 3 for the part, 4 for a memory's length, 6 for the record, else 0.
+pub fn setup_refusal(part: u64, d: Device, eeprom: usize, id: usize) -> u8
+    ensures { λ r. ⌜ r ≡ setupRefusal part d eeprom id ⌝ }
 {
     let known = part::is_part(part);
     let misfit = wrong_length(part, eeprom, id);
     let ranged = range::out_of_range(part, d);
+    first_refusal(!known, misfit, ranged, false, false, 0)
+}
+
+// What is wrong with an act and its argument: 3, 5, 1 or 2, else 0.
+pub fn act_refusal(act: Act, arg: u64, d: Device) -> u8
+    ensures { λ r. ⌜ r ≡ actRefusal act arg d ⌝ }
+{
     let wrong = wrong_arg(act, arg);
     let unpowered = wrong_power(act, d.power);
     let frame = d.frame;
     let stage = frame.stage;
     let open = stages::is_selected(stage);
     let last = wrong_select(act, open);
-    first_refusal(!known, misfit, ranged, wrong, unpowered, last)
+    first_refusal(false, false, false, wrong, unpowered, last)
 }
