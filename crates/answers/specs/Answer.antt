@@ -6,11 +6,12 @@ use mathlib.Core.Bool.{Bool, true, false, not, _||_}
 use mathlib.Core.List.{List}
 use lib.Dec.{eqb}
 use lib.ListN.{length, take}
-use Rattle.base.specs.Words.{pick}
+use Rattle.base.specs.Words.{pick, over}
 use Rattle.record.specs.declared.Act.{Act}
 use Rattle.record.specs.declared.Device.{Device}
 use Rattle.record.specs.Part.{isPart, sizeOf, idSize}
 use Rattle.record.specs.World.{World, world, freshWorld}
+use Rattle.refusals.specs.Refusal.{setupRefusal}
 use Rattle.ticks.specs.Lines.{irqLow, wdoLow}
 use Rattle.acts.specs.Act.{Outcome, performed}
 use Rattle.text.specs.Buffer.{Buffer, buffer, append}
@@ -91,30 +92,57 @@ lineOf number out part d = answerLine number out (levelHigh part (irqLow d)) (le
 unfoldable pub answerText : LineAnswer → List ℕ
 answerText a = lineOf (a .number) (a .out) (a .after .part) (a .after .chip .device)
 
--- an answer written into a buffer, and what is left
+-- The memory that a part has: none without a part, else the bytes of its EEPROM and of its ID.
+abbrev pub eepromBytes : ℕ → ℕ
+eepromBytes part = pick (eqb part 0) 0 (sizeOf part)
+
+abbrev pub idBytes : ℕ → ℕ
+idBytes part = pick (eqb part 0) 0 idSize
+
+-- all that an answer may change beside the output: the part, the record, and the lent bytes of both memories
+pub record Held : Type 0 where
+  pub part : ℕ
+  pub device : Device
+  pub eeprom : List ℕ
+  pub id : List ℕ
+
+-- the setup in it: a part has the first of the lent bytes
+abbrev pub setupIn : Held → Setup
+setupIn h = setup (h .part) (world (h .device) (take (eepromBytes (h .part)) (h .eeprom)) (take (idBytes (h .part)) (h .id)))
+
+-- another setup in its place; lent bytes past its own stay as they were
+abbrev pub holding : Held → Setup → Held
+holding h s =
+    record { part = s .part; device = s .chip .device; eeprom = over (s .chip .eeprom) (h .eeprom); id = over (s .chip .id) (h .id) }
+
+-- an answer written into a buffer, and all that is held after it
 pub record Shown : Type 0 where
-  pub after : Setup
+  pub after : Held
   pub written : Buffer
 
-abbrev pub shownIn : Buffer → LineAnswer → Shown
-shownIn o a = record { after = a .after; written = append o (answerText a) }
+unfoldable pub shownIn : Held → Buffer → LineAnswer → Shown
+shownIn h o a = record { after = holding h (a .after); written = append o (answerText a) }
 
 -- The EEPROM is lent as the bytes of the largest part; a smaller part has the first of them.
 abbrev pub eepromRoom : ℕ
 eepromRoom = 256
-
--- the setup of a part, a record and the lent memories
-abbrev pub setupOf : ℕ → Device → List ℕ → List ℕ → Setup
-setupOf part d ee id = setup part (world d (take (sizeOf part) ee) id)
-
-abbrev pub setupIn : Progress → List ℕ → List ℕ → Setup
-setupIn p ee id = setupOf (p .part) (p .device) ee id
 
 -- the sizes of the lent memories
 pub record Lent (ee ids : List ℕ) : Type 0 where
   pub eeprom : length ee ≡ eepromRoom
   pub id : length ids ≡ idSize
 
--- what the code's answer, the memories and the buffer say together
+-- a part and a record with which a tape may go on: no part, or one of the four with a record in range
+unfoldable pub ready : ℕ → Device → Bool
+ready part d = eqb part 0 || eqb (setupRefusal part d (sizeOf part) idSize) 0
+
+-- what the code's progress, the memories and the buffer say together
+abbrev pub heldBy : Progress → List ℕ → List ℕ → Held
+heldBy p ee id = record { part = p .part; device = p .device; eeprom = ee; id = id }
+
 abbrev pub shownBy : Progress → List ℕ → List ℕ → List ℕ → Shown
-shownBy r ee id bytes = record { after = setupIn r ee id; written = buffer bytes (r .at) }
+shownBy r ee id bytes = record { after = heldBy r ee id; written = buffer bytes (r .at) }
+
+-- an answer's line put into a buffer, with the levels of what is held
+abbrev pub lineIn : Held → Buffer → ℕ → Out → Shown
+lineIn h o number out = record { after = h; written = append o (lineOf number out (h .part) (h .device)) }

@@ -3,3 +3,4 @@ pub mod Every
 pub mod BitLaws
 pub mod StoreLaws
 pub mod WaitLaws
+pub mod OverLaws

@@ -3,9 +3,9 @@
 -- Assumes nothing.
 use Prim.Native.Nat.{ℕ, zero, suc, _+_, _*_, _/_, _%_, _^_}
 use mathlib.Core.Bool.{Bool, true, false, not, _&&_, _||_}
-use mathlib.Core.List.{List, [], _∷_}
+use mathlib.Core.List.{List, [], _∷_, _++_}
 use lib.Dec.{leb, eqb}
-use lib.ListN.{getD, set}
+use lib.ListN.{length, getD, set, drop}
 
 -- the first where the test holds, else the second
 abbrev pub pick : {A : Type 0} → Bool → A → A → A
@@ -46,6 +46,10 @@ unfoldable pub storeUnder : List ℕ → ℕ → ℕ → List ℕ → ℕ → Li
 storeUnder m base s bytes zero = m
 storeUnder m base s bytes (suc n) =
     pick (bit s n) (set (storeUnder m base s bytes n) (base + n) (getD bytes n 0)) (storeUnder m base s bytes n)
+
+-- a list whose start is replaced by another list; what lies behind that stays
+abbrev pub over : List ℕ → List ℕ → List ℕ
+over xs l = xs ++ drop (length xs) l
 
 -- at how many places a list differs from another of its length
 unfoldable pub changes : List ℕ → List ℕ → ℕ

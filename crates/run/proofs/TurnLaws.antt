@@ -27,7 +27,7 @@ use Rattle.ledger.specs.State.{Step, start}
 use Rattle.ledger.specs.Steps.{ledgerRun}
 use Rattle.run.specs.declared.Ran.{Ran}
 use Rattle.run.specs.Claim.{Input, Accounted, usedBy, ourChip, worldAfter, stepsOf, stepOf, DemandThree}
-use Rattle.run.specs.Run.{refusesRun, inputsOf, inputsIn, numbersOf, ticksOf, stepsBy, over, Performed, Run}
+use Rattle.run.specs.Run.{refusesRun, inputsOf, inputsIn, numbersOf, ticksOf, stepsBy, Performed, Run}
 use Rattle.run.proofs.DemandThree.{demand-three}
 
 -- the acts from place i on

@@ -4,10 +4,10 @@
 use Prim.Native.Nat.{ℕ, zero, suc, min}
 use mathlib.Core.Path.{_≡_}
 use mathlib.Core.Bool.{false, not}
-use mathlib.Core.List.{List, [], _∷_, _++_}
+use mathlib.Core.List.{List, [], _∷_}
 use lib.Dec.{ltb}
-use lib.ListN.{length, drop}
-use Rattle.base.specs.Words.{pick}
+use lib.ListN.{length}
+use Rattle.base.specs.Words.{pick, over}
 use Rattle.record.specs.Fresh.{fresh}
 use Rattle.record.specs.Numbers.{actOf}
 use Rattle.record.specs.Part.{isPart}
@@ -51,12 +51,8 @@ stepsBy [] us = []
 stepsBy (x ∷ xs) [] = []
 stepsBy (x ∷ xs) (u ∷ us) = stepOf x u ∷ stepsBy xs us
 
--- a list whose start is replaced; past the acts that were performed nothing changes
-abbrev pub over : List ℕ → List ℕ → List ℕ
-over xs l = xs ++ drop (length xs) l
-
 -- what a list of acts on a chip leaves: record and memories, how many acts, the numbers answered and the ticks used are what the
--- definitions give
+-- definitions give; past the acts that were performed nothing changes
 pub record Performed (part : ℕ) (xs : List Input) (answers answers′ used used′ : List ℕ) (w w′ : World) (n : ℕ) : Type 0 where
   pub after : w′ ≡ worldAfter ourChip part xs w
   pub count : n ≡ length xs

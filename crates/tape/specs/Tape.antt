@@ -7,7 +7,7 @@ use mathlib.Core.Bool.{Bool, _&&_}
 use mathlib.Core.List.{List, [], _∷_, _++_}
 use lib.Dec.{leb, ltb, eqb}
 use lib.ListN.{length, take}
-use Rattle.base.specs.Words.{pick}
+use Rattle.base.specs.Words.{pick, over}
 use Rattle.record.specs.Part.{idSize}
 use Rattle.record.specs.Fresh.{fresh}
 use Rattle.record.specs.World.{World, world}
@@ -15,7 +15,7 @@ use Rattle.text.specs.Bytes.{newline}
 use Rattle.text.specs.Buffer.{Buffer, buffer, append, roomIn}
 use Rattle.lines.specs.Line.{lineLimit}
 use Rattle.lines.specs.Print.{answerRoom}
-use Rattle.answers.specs.Answer.{Setup, setup, LineAnswer, lineAnswer, answerText, eepromRoom, setupOf}
+use Rattle.answers.specs.Answer.{Setup, setup, LineAnswer, lineAnswer, answerText, eepromRoom, ready, Held, setupIn, holding}
 use Rattle.tape.specs.declared.Tape.{Tape}
 use Rattle.tape.specs.declared.Feed.{Feed}
 
@@ -107,7 +107,7 @@ takenWithin room s (b ∷ bytes) =
     pick (eqb b newline && ltb room answerRoom) 0
     (suc (takenWithin (room - length (fedByte b s .answers)) (fedByte b s .after) bytes))
 
--- what a call does with a lent buffer: the answers are put at its place, and so many bytes of the chunk are taken
+-- what a call does with a state and a lent buffer: the answers are put at its place, and so many bytes of the chunk are taken
 pub record Taken : Type 0 where
   pub after : State
   pub written : Buffer
@@ -116,39 +116,69 @@ pub record Taken : Type 0 where
 abbrev pub putInto : Buffer → ℕ → Fed → Taken
 putInto o count f = record { after = f .after; written = append o (f .answers); count = count }
 
--- nothing is answered, taken or changed
-abbrev pub unchanged : Buffer → State → Taken
-unchanged o s = record { after = s; written = o; count = 0 }
+-- a chunk, as far as its answers have room
+unfoldable pub takenFrom : State → List ℕ → Buffer → Taken
+takenFrom s chunk o =
+    let k : ℕ = takenWithin (roomIn o) s chunk in
+    putInto o k (fed s (take k chunk))
+
+-- all that a call may change beside the output: the code's tape, and the lent bytes of a line, of the EEPROM and of the ID
+pub record Loan : Type 0 where
+  pub tape : Tape
+  pub line : List ℕ
+  pub eeprom : List ℕ
+  pub id : List ℕ
+
+abbrev pub loan : Tape → List ℕ → List ℕ → List ℕ → Loan
+loan t line ee id = record { tape = t; line = line; eeprom = ee; id = id }
+
+-- part, record and memories of it; the state in it: of the line the bytes that have begun it
+abbrev pub heldIn : Loan → Held
+heldIn l = record { part = l .tape .part; device = l .tape .device; eeprom = l .eeprom; id = l .id }
+
+abbrev pub stateIn : Loan → State
+stateIn l = state (setupIn (heldIn l)) (take (l .tape .begun) (l .line))
+
+-- another state in its place; lent bytes past those of the state stay as they were
+abbrev pub lending : Loan → State → Loan
+lending l s =
+    let h : Held = holding (heldIn l) (s .setup) in
+    loan (record { part = h .part; device = h .device; begun = length (s .begun) }) (over (s .begun) (l .line)) (h .eeprom) (h .id)
 
 -- The lent buffers fit, by their lengths: the head of a line lies in the bytes for it, and the memories have their sizes.
 unfoldable pub buffersFit : ℕ → ℕ → ℕ → ℕ → Bool
 buffersFit begun line ee id = leb begun headLimit && eqb line headLimit && eqb ee eepromRoom && eqb id idSize
 
--- a chunk, as far as its answers have room
-unfoldable pub feedInto : Bool → State → List ℕ → Buffer → Taken
-feedInto fits s chunk o =
-    let k : ℕ = takenWithin (roomIn o) s chunk in
-    pick fits (putInto o k (fed s (take k chunk))) (unchanged o s)
+-- it is a tape: its buffers fit, and the acts may go on with its part and record
+unfoldable pub isTape : Loan → Bool
+isTape l = buffersFit (l .tape .begun) (length (l .line)) (length (l .eeprom)) (length (l .id)) && ready (l .tape .part) (l .tape .device)
 
--- the end of a tape, where its answer has room
-unfoldable pub finishInto : Bool → State → Buffer → Taken
-finishInto fits s o = pick (fits && leb answerRoom (roomIn o)) (putInto o 0 (finished s)) (unchanged o s)
+-- what a call gives: all that is lent after it, the output, and how many bytes of the chunk were taken
+pub record Given : Type 0 where
+  pub after : Loan
+  pub written : Buffer
+  pub count : ℕ
+
+abbrev pub gives : Loan → Taken → Given
+gives l t = record { after = lending l (t .after); written = t .written; count = t .count }
+
+-- nothing is answered, taken or changed
+abbrev pub unchanged : Loan → Buffer → Given
+unchanged l o = record { after = l; written = o; count = 0 }
+
+-- `feed`: a chunk, as far as its answers have room
+unfoldable pub feedInto : Loan → List ℕ → Buffer → Given
+feedInto l chunk o = pick (isTape l) (gives l (takenFrom (stateIn l) chunk o)) (unchanged l o)
+
+-- `finish`: the end of a tape, where its answer has room
+unfoldable pub finishInto : Loan → Buffer → Given
+finishInto l o = pick (isTape l && leb answerRoom (roomIn o)) (gives l (putInto o 0 (finished (stateIn l)))) (unchanged l o)
 
 -- the lent bytes for the head of a line, and how many of them are one
 pub record Headed (line : List ℕ) (begun : ℕ) : Type 0 where
   pub size : length line ≡ headLimit
   pub within : begun ≤ headLimit
 
--- what the code's tape and the lent bytes say together
-abbrev pub stateOf : Tape → List ℕ → List ℕ → List ℕ → State
-stateOf t line ee id = state (setupOf (t .part) (t .device) ee id) (take (t .begun) line)
-
-abbrev pub takenBy : Feed → List ℕ → List ℕ → List ℕ → List ℕ → Taken
-takenBy r line ee id bytes = record { after = stateOf (r .tape) line ee id; written = buffer bytes (r .at); count = r .taken }
-
--- what `feed` and `finish` are to give, of the code's tape, the lent bytes and the buffer
-abbrev pub fedBy : Tape → List ℕ → List ℕ → List ℕ → List ℕ → Buffer → Taken
-fedBy t line ee id chunk o = feedInto (buffersFit (t .begun) (length line) (length ee) (length id)) (stateOf t line ee id) chunk o
-
-abbrev pub finishedBy : Tape → List ℕ → List ℕ → List ℕ → Buffer → Taken
-finishedBy t line ee id o = finishInto (buffersFit (t .begun) (length line) (length ee) (length id)) (stateOf t line ee id) o
+-- what the code's answer and the lent bytes say together
+abbrev pub givenBy : Feed → List ℕ → List ℕ → List ℕ → List ℕ → Given
+givenBy r line ee id bytes = record { after = loan (r .tape) line ee id; written = buffer bytes (r .at); count = r .taken }

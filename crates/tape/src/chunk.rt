@@ -8,15 +8,16 @@ use text::Kind;
 use text::buffer;
 use text::bytes;
 ghost use mathlib.Core.Path.{_≡_};
-ghost use mathlib.Core.Bool.{true};
+ghost use mathlib.Core.Bool.{true, _&&_};
 ghost use mathlib.Core.List.{_++_};
 ghost use Prim.Native.Nat.{_+_, _≤_};
 ghost use lib.ListN.{length, take};
+ghost use Rattle.base.specs.Words.{over};
 ghost use Rattle.record.specs.Fresh.{fresh};
 ghost use Rattle.text.specs.Buffer.{buffer};
 ghost use Rattle.lines.specs.Print.{answerRoom};
-ghost use Rattle.answers.specs.Answer.{lineAnswer, shownIn, shownBy, setupIn, Lent};
-ghost use Rattle.tape.specs.Tape.{head, headLimit, Headed, finished, feedInto, putInto, buffersFit, stateOf, takenBy, fedBy, finishedBy};
+ghost use Rattle.answers.specs.Answer.{lineAnswer, Lent, ready, setupIn, heldBy, shownIn, shownBy};
+ghost use Rattle.tape.specs.Tape.{head, Headed, finished, putInto, takenFrom, loan, stateIn, buffersFit, isTape, gives, feedInto, finishInto, givenBy};
 
 // T3. The head of a line: one character more than it may have tells that it is too long.
 pub const HEAD_LIMIT: usize = lines::line::LINE_LIMIT + 1;
@@ -40,17 +41,19 @@ pub fn start() -> Tape
 // Adds a piece to the head of a line, as far as the head goes, and answers how long the head is.
 fn add_to_head(piece: &[u8], line: &mut [u8], begun: usize) -> usize
     requires { ⌜ Headed (now line) begun ⌝ }
-    ensures { λ r. ⌜ (take r (now (line .exit)) ≡ head (take begun (now (line .entry)) ++ now (piece .entry))) × (r ≤ headLimit) ⌝ }
+    ensures { λ r. ⌜ (r ≡ length (head (take begun (now (line .entry)) ++ now (piece .entry))))
+        × (now (line .exit) ≡ over (head (take begun (now (line .entry)) ++ now (piece .entry))) (now (line .entry))) ⌝ }
 {
     let n = buffer::room(HEAD_LIMIT, begun);
     buffer::put(bytes::first(piece, n), line, begun)
 }
 
-// The answer to a line: its head, if it has one, and its last piece.
+// The answer to a line: its head, if it has one, and its last piece. The two are put together in an array of its own, so that the lent
+// bytes of the line stay as they are.
 fn end_line(
     piece: &[u8],
     begun: usize,
-    line: &mut [u8],
+    line: &[u8],
     p: Progress,
     eeprom: &mut [u8],
     id: &mut [u8],
@@ -58,16 +61,19 @@ fn end_line(
 ) -> Progress
     requires { ⌜ Headed (now line) begun ⌝ }
     requires { ⌜ Lent (now eeprom) (now id) ⌝ }
+    requires { ⌜ ready (p .part) (p .device) ≡ true ⌝ }
     requires { ⌜ p .at + answerRoom ≤ length (now into) ⌝ }
     ensures { λ r. ⌜ shownBy r (now (eeprom .exit)) (now (id .exit)) (now (into .exit))
-        ≡ shownIn (buffer (now (into .entry)) (p .at))
-        (lineAnswer (head (take begun (now (line .entry)) ++ now (piece .entry))) (setupIn p (now (eeprom .entry)) (now (id .entry)))) ⌝ }
+        ≡ shownIn (heldBy p (now (eeprom .entry)) (now (id .entry))) (buffer (now (into .entry)) (p .at))
+        (lineAnswer (head (take begun (now (line .entry)) ++ now (piece .entry))) (setupIn (heldBy p (now (eeprom .entry)) (now (id .entry))))) ⌝ }
 {
     if begun == 0 {
         return answers::answer_line(piece, p, eeprom, id, into);
     }
-    let n = add_to_head(piece, line, begun);
-    answers::answer_line(bytes::first(line, n), p, eeprom, id, into)
+    let mut whole = [0u8; HEAD_LIMIT];
+    let kept = buffer::put(bytes::first(line, begun), &mut whole, 0);
+    let n = add_to_head(piece, &mut whole, kept);
+    answers::answer_line(bytes::first(&whole, n), p, eeprom, id, into)
 }
 
 // What a chunk gave: how far the tape has come, how long the head of a line is, and how many bytes were taken.
@@ -86,7 +92,7 @@ fn feed_of(p: Progress, begun: usize, taken: usize) -> Feed
     }
 }
 
-// A chunk, line by line, where the lent buffers fit.
+// A chunk of a tape, line by line.
 fn feed_lines(
     chunk: &[u8],
     tape: Tape,
@@ -96,10 +102,10 @@ fn feed_lines(
     into: &mut [u8],
     at: usize,
 ) -> Feed
-    requires { ⌜ Headed (now line) (tape .begun) ⌝ }
-    requires { ⌜ Lent (now eeprom) (now id) ⌝ }
-    ensures { λ r. ⌜ takenBy r (now (line .exit)) (now (eeprom .exit)) (now (id .exit)) (now (into .exit))
-        ≡ feedInto true (stateOf tape (now (line .entry)) (now (eeprom .entry)) (now (id .entry))) (now (chunk .entry)) (buffer (now (into .entry)) at) ⌝ }
+    requires { ⌜ isTape (loan tape (now line) (now eeprom) (now id)) ≡ true ⌝ }
+    ensures { λ r. ⌜ givenBy r (now (line .exit)) (now (eeprom .exit)) (now (id .exit)) (now (into .exit))
+        ≡ gives (loan tape (now (line .entry)) (now (eeprom .entry)) (now (id .entry)))
+        (takenFrom (stateIn (loan tape (now (line .entry)) (now (eeprom .entry)) (now (id .entry)))) (now (chunk .entry)) (buffer (now (into .entry)) at)) ⌝ }
 {
     let device = tape.device;
     let mut p = Progress {
@@ -125,15 +131,17 @@ fn feed_lines(
     feed_of(p, begun, from)
 }
 
-// The lent buffers fit, by their lengths.
-fn fit(begun: usize, line: usize, eeprom: usize, id: usize) -> bool
-    ensures { λ r. ⌜ r ≡ buffersFit begun line eeprom id ⌝ }
+// It is a tape: its buffers fit, by their lengths, and the acts may go on with its part and record.
+fn is_tape(tape: Tape, line: usize, eeprom: usize, id: usize) -> bool
+    ensures { λ r. ⌜ r ≡ (buffersFit (tape .begun) line eeprom id && ready (tape .part) (tape .device)) ⌝ }
 {
-    (begun <= HEAD_LIMIT) & (line == HEAD_LIMIT) & (eeprom == EEPROM_ROOM) & (id == ID_SIZE)
+    let fit = (tape.begun <= HEAD_LIMIT) & (line == HEAD_LIMIT) & (eeprom == EEPROM_ROOM) & (id == ID_SIZE);
+    let device = tape.device;
+    fit & answers::is_ready(tape.part, device)
 }
 
 // The answers to a chunk, put into a buffer from a place on. It stops before a newline whose answer may not have room, and answers how many
-// bytes it took. Where a lent buffer does not fit, nothing is taken or changed.
+// bytes it took. What is lent and not used stays as it was. Where it is no tape, nothing is taken or changed.
 pub fn feed(
     chunk: &[u8],
     tape: Tape,
@@ -143,30 +151,30 @@ pub fn feed(
     into: &mut [u8],
     at: usize,
 ) -> Feed
-    ensures { λ r. ⌜ takenBy r (now (line .exit)) (now (eeprom .exit)) (now (id .exit)) (now (into .exit))
-        ≡ fedBy tape (now (line .entry)) (now (eeprom .entry)) (now (id .entry)) (now (chunk .entry)) (buffer (now (into .entry)) at) ⌝ }
+    ensures { λ r. ⌜ givenBy r (now (line .exit)) (now (eeprom .exit)) (now (id .exit)) (now (into .exit))
+        ≡ feedInto (loan tape (now (line .entry)) (now (eeprom .entry)) (now (id .entry))) (now (chunk .entry)) (buffer (now (into .entry)) at) ⌝ }
 {
-    let fits = fit(tape.begun, line.len(), eeprom.len(), id.len());
-    if fits {
+    let good = is_tape(tape, line.len(), eeprom.len(), id.len());
+    if good {
         return feed_lines(chunk, tape, line, eeprom, id, into, at);
     }
     Feed { tape, taken: 0, at }
 }
 
-// The end of a tape, where the lent buffers fit and have room.
+// The end of a tape, where its answer has room.
 fn finish_line(
     tape: Tape,
-    line: &mut [u8],
+    line: &[u8],
     eeprom: &mut [u8],
     id: &mut [u8],
     into: &mut [u8],
     at: usize,
 ) -> Feed
-    requires { ⌜ Headed (now line) (tape .begun) ⌝ }
-    requires { ⌜ Lent (now eeprom) (now id) ⌝ }
+    requires { ⌜ isTape (loan tape (now line) (now eeprom) (now id)) ≡ true ⌝ }
     requires { ⌜ at + answerRoom ≤ length (now into) ⌝ }
-    ensures { λ r. ⌜ takenBy r (now (line .exit)) (now (eeprom .exit)) (now (id .exit)) (now (into .exit))
-        ≡ putInto (buffer (now (into .entry)) at) 0 (finished (stateOf tape (now (line .entry)) (now (eeprom .entry)) (now (id .entry)))) ⌝ }
+    ensures { λ r. ⌜ givenBy r (now (line .entry)) (now (eeprom .exit)) (now (id .exit)) (now (into .exit))
+        ≡ gives (loan tape (now (line .entry)) (now (eeprom .entry)) (now (id .entry)))
+        (putInto (buffer (now (into .entry)) at) 0 (finished (stateIn (loan tape (now (line .entry)) (now (eeprom .entry)) (now (id .entry)))))) ⌝ }
 {
     let begun = tape.begun;
     if begun == 0 {
@@ -182,7 +190,7 @@ fn finish_line(
     feed_of(q, 0, 0)
 }
 
-// The answer to a last line that has no newline. Where a lent buffer does not fit or has no room, nothing is changed.
+// The answer to a last line that has no newline. Where it is no tape or the answer has no room, nothing is changed.
 pub fn finish(
     tape: Tape,
     line: &mut [u8],
@@ -191,11 +199,11 @@ pub fn finish(
     into: &mut [u8],
     at: usize,
 ) -> Feed
-    ensures { λ r. ⌜ takenBy r (now (line .exit)) (now (eeprom .exit)) (now (id .exit)) (now (into .exit))
-        ≡ finishedBy tape (now (line .entry)) (now (eeprom .entry)) (now (id .entry)) (buffer (now (into .entry)) at) ⌝ }
+    ensures { λ r. ⌜ givenBy r (now (line .exit)) (now (eeprom .exit)) (now (id .exit)) (now (into .exit))
+        ≡ finishInto (loan tape (now (line .entry)) (now (eeprom .entry)) (now (id .entry))) (buffer (now (into .entry)) at) ⌝ }
 {
-    let fits = fit(tape.begun, line.len(), eeprom.len(), id.len());
-    if !fits {
+    let good = is_tape(tape, line.len(), eeprom.len(), id.len());
+    if !good {
         return Feed { tape, taken: 0, at };
     }
     let has_room = print::ANSWER_ROOM <= buffer::room(into.len(), at);

@@ -3,6 +3,7 @@
 use mathlib.Core.Path.{_∙_}
 use borrow.Author.Needs.{needs}
 use Rattle.text.specs.Buffer.{buffer}
+use Rattle.answers.specs.Answer.{lineIn}
 use Rattle.answers.proofs.AnswerLaws.{told-shown}
 use Rattle.answers.proofs.told.Statement.{statement}
 use Rattle.answers.proofs.told.Tie as tie
@@ -13,7 +14,7 @@ returns c =
     let a = h .before .before .before .before .before .args in
     let p = c .before .before .put-answer in
     λ ee id.
-    told-shown (a .number) (a .part) (a .out) (a .d) ee id (buffer (a .into .now) (a .at)) (buffer (p .last .1 .1 .1 .1 .0) (p .result))
+    told-shown (record { part = a .part; device = a .d; eeprom = ee; id = id }) (buffer (a .into .now) (a .at)) (buffer (p .last .1 .1 .1 .1 .0) (p .result)) (a .number) (a .out)
     (p .ensures ∙ simp (
       h .high2 .ensures,
       h .before .wdo-low .ensures,
