@@ -104,6 +104,15 @@ pub told-shown :
     → _≡_ {A = Shown} (record { after = h; written = p }) (lineIn h o number out)
 told-shown h o p number out e = λ i. record { after = h; written = e i }
 
+-- what an answer leaves held, and what it writes
+pub shown-held : (h : Held) (o : Buffer) (a : LineAnswer) {x : Shown} → x ≡ shownIn h o a → x .after ≡ holding h (a .after)
+unfolding shownIn
+shown-held h o a e = ap (λ (y : Shown). y .after) e
+
+pub shown-written : (h : Held) (o : Buffer) (a : LineAnswer) {x : Shown} → x ≡ shownIn h o a → x .written ≡ append o (answerText a)
+unfolding shownIn
+shown-written h o a e = ap (λ (y : Shown). y .written) e
+
 -- The setup that is held, put back, leaves all as it is: so does a refused line.
 pub same-held : (h : Held) → holding h (setupIn h) ≡ h
 same-held h =

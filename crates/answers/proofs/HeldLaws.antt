@@ -24,7 +24,7 @@ use Rattle.lines.specs.declared.Request.{Request}
 use Rattle.lines.specs.declared.Request.the-variants.{PartLine, ActLine, Bad}
 use Rattle.lines.specs.Request.{requestOf}
 use Rattle.answers.specs.Answer.{Setup, setup, noPart, freshSetup, LineAnswer, refusedLine, requestAnswer, lineAnswer, Held, eepromBytes, idBytes, setupIn, holding, eepromRoom, Lent, ready}
-use Rattle.answers.proofs.AnswerLaws.{ready-suits, line-ready}
+use Rattle.answers.proofs.AnswerLaws.{ready-suits, line-ready, same-held}
 
 -- a setup with which a tape may go on, and whose memories have the sizes of its part
 pub record Sound (s : Setup) : Type 0 where
@@ -95,8 +95,7 @@ line-longer line s g =
     by-cases (noPart s)
     (λ e. (omega (arith, g .eeprom, yes 0 (sizeOf (s .part)) e), omega (arith, g .id, yes 0 idSize e)))
     (λ e.
-    let p = sym (request-part (requestOf line) s e) in
-    (
+    let p = sym (request-part (requestOf line) s e) in (
       omega (arith, g .eeprom, ap eepromBytes p, k .eeprom),
       omega (arith, g .id, ap idBytes p, k .id),
     ))
@@ -120,20 +119,23 @@ held-over h s t e i =
       id = over-over (s .chip .id) (t .chip .id) (h .id) i j;
     }
 
--- What is held after a line, from what was held at first: it is the setup, and past that what was there at first.
-pub record Onward (h₀ h : Held) (s : Setup) : Type 0 where
-  pub sound : Sound s
-  pub inside : setupIn h ≡ s
-  pub beyond : h ≡ holding h₀ s
+-- What is held, by what was held at first: a sound setup, and past its bytes what was there at first.
+pub record Onward (h₀ h : Held) : Type 0 where
+  pub sound : Sound (setupIn h)
+  pub beyond : h ≡ holding h₀ (setupIn h)
 
-pub line-onward :
-    (h₀ h : Held) (s : Setup) (line : List ℕ) → Onward h₀ h s → Onward h₀ (holding h (lineAnswer line s .after)) (lineAnswer line s .after)
-line-onward h₀ h s line o =
+pub onward-start : (h : Held) → Sound (setupIn h) → Onward h h
+onward-start h g = record { sound = g; beyond = sym (same-held h) }
+
+-- a line leads from one to the next, and its answer's setup is in it
+pub onward-line :
+    (h₀ h h′ : Held) (line : List ℕ) → Onward h₀ h → h′ ≡ holding h (lineAnswer line (setupIn h) .after)
+    → Onward h₀ h′ × (setupIn h′ ≡ lineAnswer line (setupIn h) .after)
+onward-line h₀ h h′ line o e =
+    let s = setupIn h in
     let t = lineAnswer line s .after in
     let k = line-sound line s (o .sound) in
     let l = line-longer line s (o .sound) in
-    record {
-      sound = k;
-      inside = held-setup h t k;
-      beyond = ap (λ (x : Held). holding x t) (o .beyond) ∙ held-over h₀ s t (l .0) (l .1);
-    }
+    let q : setupIn h′ ≡ t = ap setupIn e ∙ held-setup h t k in
+    let b : h′ ≡ holding h₀ t = e ∙ ap (λ (x : Held). holding x t) (o .beyond) ∙ held-over h₀ s t (l .0) (l .1) in
+    (record { sound = subst Sound (sym q) k; beyond = b ∙ ap (holding h₀) (sym q) }, q)

@@ -12,7 +12,7 @@ use borrow.Author.Tests.{lt-ltb, le-ltb, eqb-true, not-false}
 use lib.Dec.{eqb, ltb}
 use lib.ListN.{length, getD, take, drop, set, replicate, take-append-drop}
 use lib.Seq.{drop-cons}
-use Rattle.base.specs.Words.{pick}
+use Rattle.base.specs.Words.{pick, over}
 use Rattle.base.proofs.Tests.{row, neither-left, neither-right}
 use Rattle.record.specs.declared.Act.{Act}
 use Rattle.record.specs.declared.Device.{Device}

@@ -135,7 +135,10 @@ fn feed_lines(
 fn is_tape(tape: Tape, line: usize, eeprom: usize, id: usize) -> bool
     ensures { λ r. ⌜ r ≡ (buffersFit (tape .begun) line eeprom id && ready (tape .part) (tape .device)) ⌝ }
 {
-    let fit = (tape.begun <= HEAD_LIMIT) & (line == HEAD_LIMIT) & (eeprom == EEPROM_ROOM) & (id == ID_SIZE);
+    let fit = (tape.begun <= HEAD_LIMIT)
+        & (line == HEAD_LIMIT)
+        & (eeprom == EEPROM_ROOM)
+        & (id == ID_SIZE);
     let device = tape.device;
     fit & answers::is_ready(tape.part, device)
 }

@@ -3,23 +3,26 @@
 use borrow.Author.Needs.{needs}
 use native.Mathlib.Omega.{arith}
 use mathlib.Core.Path.{_≡_, refl, ap, _∙_}
-use mathlib.Core.List.{List}
+use mathlib.Core.List.{List, _++_}
 use Prim.Native.Nat.{ℕ, _+_, _-_, _^_, _<_, _≤_}
 use lib.ListN.{length, take, length-take, length-drop}
 use Rattle.text.specs.Bytes.{plain}
 use Rattle.text.specs.Buffer.{buffer}
 use Rattle.text.proofs.BytesLaws.{leading-within}
 use Rattle.lines.specs.Print.{answerRoom}
-use Rattle.answers.specs.Answer.{setupIn, shownBy}
+use Rattle.base.specs.Words.{over}
+use Rattle.answers.specs.Answer.{lineAnswer, heldBy, setupIn}
+use Rattle.answers.proofs.AnswerLaws.{shown-held, shown-written}
+use Rattle.answers.proofs.HeldLaws.{Onward, onward-start, onward-line}
 use Rattle.tape.specs.declared.Feed.{Feed}
-use Rattle.tape.specs.Tape.{headLimit, Headed, state, takenBy}
-use Rattle.tape.proofs.TapeLaws.{Sofar, sofar-start, sofar-done, turn-stop, turn-line, stops, goes}
+use Rattle.tape.specs.Tape.{head, headLimit, Headed, state, loan, heldIn, givenBy}
+use Rattle.tape.proofs.TapeLaws.{Sofar, sofar-start, sofar-done, turn-stop, turn-line, stops, goes, TapeFacts, tape-facts, tape-sound, lent-after, kept-same, given}
 use Rattle.tape.proofs.chunk.feed_lines.Statement.{statement}
 use Rattle.tape.proofs.chunk.feed_lines.Tie as tie
 
 -- what is lent stays as long as it was; the head and the place lie in their bounds
 record Bounds (l₀ e₀ i₀ o₀ chunk l e i o : List ℕ) (begun from : ℕ) : Type 0 where
-  line : length l ≡ length l₀
+  line : l ≡ l₀
   eeprom : length e ≡ length e₀
   id : length i ≡ length i₀
   into : length o ≡ length o₀
@@ -29,21 +32,31 @@ record Bounds (l₀ e₀ i₀ o₀ chunk l e i o : List ℕ) (begun from : ℕ) 
 abbrev Inv-loop : tie.InvT-loop
 Inv-loop chunk line₀ eeprom₀ id₀ into₀ at p₀ begun₀ from₀ line eeprom id into p begun from =
     Bounds line₀ eeprom₀ id₀ into₀ chunk line eeprom id into begun from
-    × Sofar (state (setupIn p₀ eeprom₀ id₀) (take begun₀ line₀)) chunk (buffer into₀ (p₀ .at)) from
-    (state (setupIn p eeprom id) (take begun line)) (buffer into (p .at))
+    × Onward (heldBy p₀ eeprom₀ id₀) (heldBy p eeprom id)
+    × Sofar (state (setupIn (heldBy p₀ eeprom₀ id₀)) (take begun₀ line₀)) chunk (buffer into₀ (p₀ .at)) from
+    (state (setupIn (heldBy p eeprom id)) (take begun line)) (buffer into (p .at))
 
 abbrev μ-loop : tie.MeasureT-loop
 μ-loop chunk line₀ eeprom₀ id₀ into₀ at p₀ begun₀ from₀ line eeprom id into p begun from = length chunk - from
 
 loop-holds : tie.Need-loop-holds Inv-loop μ-loop
 loop-holds c =
-    let b = c .before .before .before .before .before .before in (
-      record { line = refl; eeprom = refl; id = refl; into = refl; head = b .pre .0 .within; place = omega arith },
+    let b = c .before .before .before .before .before .before in
+    let l₀ = loan (b .args .tape) (b .args .line .now) (b .args .eeprom .now) (b .args .id .now) in
+    let f = tape-facts l₀ (b .pre) in (
+      record { line = refl; eeprom = refl; id = refl; into = refl; head = f .headed .within; place = omega arith },
+      onward-start (heldIn l₀) (tape-sound l₀ f),
       sofar-start _ _ _,
     )
 
+-- what was asked at first, and the head of a line at each turn
+facts :
+    (c : tie.At-loop Inv-loop μ-loop)
+    → let a = c .before .before .before .before .before .before .before .args in TapeFacts (loan (a .tape) (a .line .now) (a .eeprom .now) (a .id .now))
+facts c = let b = c .before .before .before .before .before .before .before in tape-facts (loan (b .args .tape) (b .args .line .now) (b .args .eeprom .now) (b .args .id .now)) (b .pre)
+
 headed : (c : tie.At-loop Inv-loop μ-loop) → Headed (c .loop .line) (c .loop .begun)
-headed c = record { size = c .loop .inv .0 .line ∙ c .before .before .before .before .before .before .before .pre .0 .size; within = c .loop .inv .0 .head }
+headed c = record { size = ap length (c .loop .inv .0 .line) ∙ facts c .headed .size; within = c .loop .inv .0 .head }
 
 -- the piece lies in what is left, and that in the chunk
 record Piece (chunk left : List ℕ) (from n : ℕ) : Type 0 where
@@ -88,47 +101,74 @@ short l n h = simp length-take (omega arith)
 returns : tie.Need-returns Inv-loop μ-loop
 returns c =
     let r = c .before .before .before .before .before .before in
-    let l = r .before .before .before .before .before .loop in
+    let x = r .before .before .before .before .before in
+    let l = x .loop in
+    let a = x .before .before .before .before .before .before .before .args in
+    let l₀ = loan (a .tape) (a .line .now) (a .eeprom .now) (a .id .now) in
+    let h = heldBy (l .p) (l .eeprom) (l .id) in
     let k = c .before .before .before .add-to-head in
-    ap (λ (f : Feed). takenBy f (k .last .1 .0) (l .eeprom) (l .id) (l .into)) (c .feed-of .ensures)
-    ∙ turn-stop _ _ _ (l .from) _ _ _ (short (l .line) (l .begun) (l .inv .0 .head)) (l .inv .1)
+    let kept = head (take (l .begun) (l .line) ++ r .before .first .result .now) in
+    ap (λ (f : Feed). givenBy f (k .last .1 .0) (l .eeprom) (l .id) (l .into)) (c .feed-of .ensures)
+    ∙ given l₀ _ (state (setupIn h) kept) (buffer (l .into) (l .p .at)) _ _
+    (lent-after l₀ h kept (k .last .1 .0) (k .result) (l .inv .1) (k .ensures .0) (k .ensures .1 ∙ ap (over kept) (l .inv .0 .line)))
+    (turn-stop _ _ _ (l .from) _ _ _ (short (l .line) (l .begun) (l .inv .0 .head)) (l .inv .2)
     _ (r .before .before .before .rest .ensures) _ (r .before .before .leading-of .ensures) _ (r .before .first .ensures)
-    (stops _ _ _ _ (r .room .ensures) (c .before .before .before .before .before .if1 .taken)) (take (k .result) (k .last .1 .0)) (k .ensures .0)
+    (stops _ _ _ _ (r .room .ensures) (c .before .before .before .before .before .if1 .taken)) kept refl)
 
 end-line-requires : tie.Need-end-line-requires Inv-loop μ-loop
 end-line-requires c κs =
     let t = c .before .before .before .before in
     let l = t .before .before .before .before .before .before in
     let i = l .loop .inv .0 in
-    let b = l .before .before .before .before .before .before .before .pre .1 in
-    (headed l, (record { eeprom = i .eeprom ∙ b .eeprom; id = i .id ∙ b .id }, omega (arith, next-in t)))
+    let b = facts l .lent in
+    (headed l, (record { eeprom = i .eeprom ∙ b .eeprom; id = i .id ∙ b .id }, (l .loop .inv .1 .sound .goes, omega (arith, next-in t))))
 
 loop-again : tie.Need-loop-again Inv-loop μ-loop
 loop-again c =
-    let t = c .before .before .before .before .before .before .before .before .before .before .before .before .before in
-    let l = t .before .before .before .before .before .before .loop in
+    let t = c .before .before .before .before .before .before .before .before .before .before .before in
+    let y = t .before .before .before .before .before .before in
+    let l = y .loop in
     let i = l .inv .0 in
     let n = next-in t in
-    let f = c .before .before .before .before .before .before .before .before .end-line in
-    let x = shownBy (f .result) (f .last .1 .1 .1 .1 .0) (f .last .1 .1 .1 .1 .1 .0) (f .last .1 .1 .1 .1 .1 .1 .0) in (
+    let f = c .before .before .before .before .before .before .end-line in
+    let a = y .before .before .before .before .before .before .before .args in
+    let ee = f .last .1 .1 .1 .1 .0 in
+    let id = f .last .1 .1 .1 .1 .1 .0 in
+    let into = f .last .1 .1 .1 .1 .1 .1 .0 in
+    let h₀ = heldIn (loan (a .tape) (a .line .now) (a .eeprom .now) (a .id .now)) in
+    let h = heldBy (l .p) (l .eeprom) (l .id) in
+    let o = buffer (l .into) (l .p .at) in
+    let whole = head (take (l .begun) (l .line) ++ t .before .before .first .result .now) in
+    let z = lineAnswer whole (setupIn h) in
+    let w = onward-line h₀ h (heldBy (f .result) ee id) whole (l .inv .1) (shown-held h o z (f .ensures)) in (
       record {
-        line = f .kept .1 .1 .0 ∙ i .line;
+        line = i .line;
         eeprom = f .kept .1 .1 .1 .1 .0 ∙ i .eeprom;
         id = f .kept .1 .1 .1 .1 .1 .0 ∙ i .id;
         into = f .kept .1 .1 .1 .1 .1 .1 .0 ∙ i .into;
         head = omega arith;
         place = omega arith;
       },
-      turn-line _ _ _ (l .from) _ _ _ (short (l .line) (l .begun) (i .head)) (l .inv .1)
+      w .0,
+      turn-line _ _ _ (l .from) _ _ _ (short (l .line) (l .begun) (i .head)) (l .inv .2)
           _ (t .before .before .before .before .rest .ensures) _ (t .before .before .before .leading-of .ensures) _
-          (t .before .before .first .ensures) (n .less) (n .free) x (f .ensures),
+          (t .before .before .first .ensures) (n .less) (n .free) (setupIn (heldBy (f .result) ee id)) (buffer into (f .result .at)) (w .1)
+          (shown-written h o z (f .ensures)),
     )
 
 returns-2 : tie.Need-returns-2 Inv-loop μ-loop
 returns-2 c =
-    let l = c .before .before .loop in
-    ap (λ (f : Feed). takenBy f (l .line) (l .eeprom) (l .id) (l .into)) (c .feed-of2 .ensures)
-    ∙ sofar-done _ _ _ (l .from) _ _ (c .before .loop-test .left) (l .inv .1)
+    let x = c .before .before in
+    let l = x .loop in
+    let a = x .before .before .before .before .before .before .before .args in
+    let l₀ = loan (a .tape) (a .line .now) (a .eeprom .now) (a .id .now) in
+    let h = heldBy (l .p) (l .eeprom) (l .id) in
+    let kept = take (l .begun) (l .line) in
+    let k = kept-same (l .line) (l .begun) (headed x) in
+    ap (λ (f : Feed). givenBy f (l .line) (l .eeprom) (l .id) (l .into)) (c .feed-of2 .ensures)
+    ∙ given l₀ _ (state (setupIn h) kept) (buffer (l .into) (l .p .at)) (l .from) _
+    (lent-after l₀ h kept (l .line) (l .begun) (l .inv .1) (k .0) (k .1 ∙ ap (over kept) (l .inv .0 .line)))
+    (sofar-done _ _ _ (l .from) _ _ (c .before .loop-test .left) (l .inv .2))
 
 add-to-head-requires : tie.Need-add-to-head-requires Inv-loop μ-loop
 add-to-head-requires c κs = headed (c .before .before .before .before .before .before .before)
@@ -139,7 +179,7 @@ add-feed-of c = omega (arith, piece-in (c .before .before .before .before .befor
 same-length : tie.Need-same-length Inv-loop μ-loop
 same-length c =
     let l = c .before .before .before .before .before .before .before .before .before .before .before .loop in
-    c .before .before .before .add-to-head .kept .1 .0 ∙ l .inv .0 .line
+    c .before .before .before .add-to-head .kept .1 .0 ∙ ap length (l .inv .0 .line)
 
 same-length-2 : tie.Need-same-length-2 Inv-loop μ-loop
 same-length-2 c = c .before .before .before .before .before .before .before .before .before .before .before .loop .inv .0 .eeprom
@@ -151,16 +191,16 @@ same-length-4 : tie.Need-same-length-4 Inv-loop μ-loop
 same-length-4 c = c .before .before .before .before .before .before .before .before .before .before .before .loop .inv .0 .into
 
 add-from : tie.Need-add-from Inv-loop μ-loop
-add-from c = omega (arith, next-in (c .before .before .before .before .before .before .before .before .before .before .before .before .before))
+add-from c = omega (arith, next-in (c .before .before .before .before .before .before .before .before .before .before .before))
 
 add-from-2 : tie.Need-add-from-2 Inv-loop μ-loop
-add-from-2 c = omega (arith, next-in (c .before .before .before .before .before .before .before .before .before .before .before .before .before))
+add-from-2 c = omega (arith, next-in (c .before .before .before .before .before .before .before .before .before .before .before))
 
 loop-less : tie.Need-loop-less Inv-loop μ-loop
-loop-less c = omega (arith, next-in (c .before .before .before .before .before .before .before .before .before .before .before .before .before))
+loop-less c = omega (arith, next-in (c .before .before .before .before .before .before .before .before .before .before .before))
 
 same-length-5 : tie.Need-same-length-5 Inv-loop μ-loop
-same-length-5 c = c .before .before .loop .inv .0 .line
+same-length-5 c = ap length (c .before .before .loop .inv .0 .line)
 
 same-length-6 : tie.Need-same-length-6 Inv-loop μ-loop
 same-length-6 c = c .before .before .loop .inv .0 .eeprom
