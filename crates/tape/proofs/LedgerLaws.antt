@@ -27,7 +27,7 @@ use Rattle.lines.specs.Print.{outOf}
 use Rattle.lines.specs.Read.{shownOr, numberRead}
 use Rattle.answers.specs.Answer.{Setup, setup, LineAnswer, answer, refusedLine, outcomeAnswer, freshSetup, requestAnswer, lineAnswer}
 use Rattle.tape.specs.Tape.{linesFrom, tapeAnswers, emptySetup}
-use Rattle.tape.specs.Told.{Told, tells, lineTold, stepsTold, partTold, told}
+use Rattle.tape.specs.Told.{Told, tells, lineTold, stepsTold, partTold, linesTold}
 use Rattle.tape.specs.Steps.{setupAfter, toldBy, AccountsFor, BytesAccounted}
 use Rattle.tape.proofs.WholeLaws.{setup-lines, before-any}
 use Rattle.tape.proofs.ToldLaws.{charsOf, chars-number, chars-out, answerLines, answers-cut}
@@ -118,12 +118,12 @@ fresh-owes n p lines =
 
 -- before it: the claim of lines, and of a line with its answer before them
 abbrev Owed : List (List ℕ) → Setup → Type 0
-Owed lines s = AccountsFor (told lines (answerLines s lines)) (setupAfter s lines)
+Owed lines s = AccountsFor (linesTold lines (answerLines s lines)) (setupAfter s lines)
 
 abbrev OwedAfter : Request → List (List ℕ) → LineAnswer → Type 0
 OwedAfter r lines a =
     let answers : List (List ℕ) = answerLines (a .after) lines in
-    AccountsFor (partTold r (charsOf a) (stepsTold lines answers) (told lines answers)) (setupAfter (a .after) lines)
+    AccountsFor (partTold r (charsOf a) (stepsTold lines answers) (linesTold lines answers)) (setupAfter (a .after) lines)
 
 line-owes : (r : Request) (lines : List (List ℕ)) (w : World) → Owed lines (setup 0 w) → OwedAfter r lines (requestAnswer r (setup 0 w))
 line-owes (PartLine n) lines w h =
@@ -136,7 +136,7 @@ line-owes (ActLine act arg) lines w h = h
 line-owes Bad lines w h = h
 
 tape-owes : (lines : List (List ℕ)) (w : World) → Owed lines (setup 0 w)
-unfolding setupAfter told answerLines lineAnswer
+unfolding setupAfter linesTold answerLines lineAnswer
 tape-owes [] w = record { same-part = refl; same-bytes = λ q. absurd (true≢false q) }
 tape-owes (line ∷ lines) w = line-owes (requestOf line) lines w (tape-owes lines w)
 
@@ -146,4 +146,4 @@ bytes-accounted bytes w =
     let lines = linesFrom [] bytes in
     let e = ap (linesFrom []) (before-any lines (emptySetup .chip) w) ∙ answers-cut lines (setup 0 w) in
     subst (λ (s : Setup). AccountsFor (toldBy bytes (tapeAnswers bytes)) s) (sym (setup-lines bytes (setup 0 w) []))
-    (subst (λ (answers : List (List ℕ)). AccountsFor (told lines answers) (setupAfter (setup 0 w) lines)) (sym e) (tape-owes lines w))
+    (subst (λ (answers : List (List ℕ)). AccountsFor (linesTold lines answers) (setupAfter (setup 0 w) lines)) (sym e) (tape-owes lines w))

@@ -12,7 +12,7 @@ use Rattle.ledger.specs.Steps.{ledgerRun}
 use Rattle.run.specs.Claim.{Accounted}
 use Rattle.answers.specs.Answer.{Setup, setup, lineAnswer}
 use Rattle.tape.specs.Tape.{state, fed, finished, linesFrom, tapeAnswers}
-use Rattle.tape.specs.Told.{Told, told}
+use Rattle.tape.specs.Told.{Told, linesTold}
 
 -- what is left after lines
 unfoldable pub setupAfter : Setup → List (List ℕ) → Setup
@@ -25,7 +25,7 @@ leftAfter w bytes = finished (fed (state (setup 0 w) []) bytes .after) .after .s
 
 -- L1. what the bytes of a tape and the bytes that are printed for it tell
 abbrev pub toldBy : List ℕ → List ℕ → Told
-toldBy bytes printed = told (linesFrom [] bytes) (linesFrom [] printed)
+toldBy bytes printed = linesTold (linesFrom [] bytes) (linesFrom [] printed)
 
 -- The part told is the part that there is; and where there is one, each byte of its memories is the ledger's for the steps told.
 pub record AccountsFor (t : Told) (s : Setup) : Type 0 where

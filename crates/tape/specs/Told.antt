@@ -40,7 +40,7 @@ partTold (ActLine act arg) answer steps later = later
 partTold Bad answer steps later = later
 
 -- L1. what lines with their answers tell
-unfoldable pub told : List (List ℕ) → List (List ℕ) → Told
-told [] answers = tells 0 []
-told (line ∷ lines) [] = tells 0 []
-told (line ∷ lines) (answer ∷ answers) = partTold (requestOf line) answer (stepsTold lines answers) (told lines answers)
+unfoldable pub linesTold : List (List ℕ) → List (List ℕ) → Told
+linesTold [] answers = tells 0 []
+linesTold (line ∷ lines) [] = tells 0 []
+linesTold (line ∷ lines) (answer ∷ answers) = partTold (requestOf line) answer (stepsTold lines answers) (linesTold lines answers)
