@@ -18,7 +18,7 @@ use Rattle.text.proofs.BytesLaws.{leading-append, leading-join, agreed-itself}
 use Rattle.text.proofs.DecimalLaws.{value-of-decimal, decimal-without, decimal-is}
 use Rattle.lines.specs.declared.Out.{Out}
 use Rattle.lines.specs.declared.Out.the-variants.{Value, Z}
-use Rattle.lines.specs.Print.{outText, levelOut, noWord, outWord, irqWord, wdoWord, answerChars, answerLine}
+use Rattle.lines.specs.Print.{outText, levelOut, noWord, outWord, irqWord, wdoWord, fieldsText, answerChars, answerLine}
 use Rattle.lines.specs.Read.{solid, shownRead, Field, field, textRead, afterWord, fieldRead, noField, outField, irqField, wdoField, shownOr, highShown, numberRead, outRead, irqRead, wdoRead}
 
 -- what a text shows is what it was printed for
@@ -65,64 +65,66 @@ joined a b c d = simp append-assoc
 field-plain : (word : List ℕ) (out : Out) → leading plain word ≡ length word → leading plain (word ++ outText out) ≡ length (word ++ outText out)
 field-plain word out e = leading-join plain word (outText out) e (out-without newline (omega arith) out)
 
--- the four fields of what is printed
-module _ (number : ℕ) (out : Out) (irq wdo : Bool) where
-  abbrev wdoPiece : List ℕ
-  wdoPiece = wdoWord ++ outText (levelOut wdo)
-
-  abbrev irqPiece : List ℕ
-  irqPiece = irqWord ++ outText (levelOut irq)
+-- the four fields, whatever they show
+module _ (number out irq wdo : Out) where
+  abbrev noPiece : List ℕ
+  noPiece = noWord ++ outText number
 
   abbrev outPiece : List ℕ
   outPiece = outWord ++ outText out
 
-  abbrev noPiece : List ℕ
-  noPiece = noWord ++ outText (Value number)
+  abbrev irqPiece : List ℕ
+  irqPiece = irqWord ++ outText irq
 
-  no-back : noField (answerChars number out irq wdo) ≡ field (Value number) (outPiece ++ (irqPiece ++ wdoPiece))
-  unfolding answerChars leading
-  no-back =
-      ap noField (joined noPiece outPiece irqPiece wdoPiece) ∙ field-back noWord (Value number) (outPiece ++ (irqPiece ++ wdoPiece)) refl
+  abbrev wdoPiece : List ℕ
+  wdoPiece = wdoWord ++ outText wdo
 
-  out-back : outField (answerChars number out irq wdo) ≡ field out (irqPiece ++ wdoPiece)
+  no-back : noField (fieldsText number out irq wdo) ≡ field number (outPiece ++ (irqPiece ++ wdoPiece))
+  unfolding fieldsText leading
+  no-back = ap noField (joined noPiece outPiece irqPiece wdoPiece) ∙ field-back noWord number (outPiece ++ (irqPiece ++ wdoPiece)) refl
+
+  out-back : outField (fieldsText number out irq wdo) ≡ field out (irqPiece ++ wdoPiece)
   unfolding leading
   out-back = ap (λ (f : Field). fieldRead outWord (f .left)) no-back ∙ field-back outWord out (irqPiece ++ wdoPiece) refl
 
-  irq-back : irqField (answerChars number out irq wdo) ≡ field (levelOut irq) wdoPiece
+  irq-back : irqField (fieldsText number out irq wdo) ≡ field irq wdoPiece
   unfolding leading
-  irq-back = ap (λ (f : Field). fieldRead irqWord (f .left)) out-back ∙ field-back irqWord (levelOut irq) wdoPiece refl
+  irq-back = ap (λ (f : Field). fieldRead irqWord (f .left)) out-back ∙ field-back irqWord irq wdoPiece refl
 
-  wdo-back : wdoField (answerChars number out irq wdo) ≡ field (levelOut wdo) []
+  wdo-back : wdoField (fieldsText number out irq wdo) ≡ field wdo []
   unfolding leading
   wdo-back =
-      ap (λ (f : Field). fieldRead wdoWord (f .left)) (irq-back ∙ ap (field (levelOut irq)) (sym (append-nil wdoPiece)))
-      ∙ field-back wdoWord (levelOut wdo) [] refl
+      ap (λ (f : Field). fieldRead wdoWord (f .left)) (irq-back ∙ ap (field irq) (sym (append-nil wdoPiece))) ∙ field-back wdoWord wdo [] refl
 
-  -- number, out and levels are read back
+  fields-plain : leading plain (fieldsText number out irq wdo) ≡ length (fieldsText number out irq wdo)
+  unfolding fieldsText leading
+  fields-plain =
+      let a = field-plain noWord number refl in
+      let b = leading-join plain noPiece outPiece a (field-plain outWord out refl) in
+      let c = leading-join plain (noPiece ++ outPiece) irqPiece b (field-plain irqWord irq refl) in
+      leading-join plain (noPiece ++ outPiece ++ irqPiece) wdoPiece c (field-plain wdoWord wdo refl)
+
+-- an answer's number, out and levels are read back, and no character of it is a newline
+module _ (number : ℕ) (out : Out) (irq wdo : Bool) where
   pub number-read : numberRead (answerChars number out irq wdo) ≡ number
-  unfolding numberRead
-  number-read = ap (λ (f : Field). shownOr 7 (f .shown)) no-back
+  unfolding numberRead answerChars
+  number-read = ap (λ (f : Field). shownOr 7 (f .shown)) (no-back _ _ _ _)
 
   pub out-read : outRead (answerChars number out irq wdo) ≡ out
-  unfolding outRead
-  out-read = ap (λ (f : Field). f .shown) out-back
+  unfolding outRead answerChars
+  out-read = ap (λ (f : Field). f .shown) (out-back _ _ _ _)
 
   pub irq-read : irqRead (answerChars number out irq wdo) ≡ irq
-  unfolding irqRead
-  irq-read = ap (λ (f : Field). highShown (f .shown)) irq-back ∙ high-back irq
+  unfolding irqRead answerChars
+  irq-read = ap (λ (f : Field). highShown (f .shown)) (irq-back _ _ _ _) ∙ high-back irq
 
   pub wdo-read : wdoRead (answerChars number out irq wdo) ≡ wdo
-  unfolding wdoRead
-  wdo-read = ap (λ (f : Field). highShown (f .shown)) wdo-back ∙ high-back wdo
+  unfolding wdoRead answerChars
+  wdo-read = ap (λ (f : Field). highShown (f .shown)) (wdo-back _ _ _ _) ∙ high-back wdo
 
-  -- no character of it is a newline
   pub answer-plain : leading plain (answerChars number out irq wdo) ≡ length (answerChars number out irq wdo)
-  unfolding answerChars leading
-  answer-plain =
-      let a = field-plain noWord (Value number) refl in
-      let b = leading-join plain noPiece outPiece a (field-plain outWord out refl) in
-      let c = leading-join plain (noPiece ++ outPiece) irqPiece b (field-plain irqWord (levelOut irq) refl) in
-      leading-join plain (noPiece ++ outPiece ++ irqPiece) wdoPiece c (field-plain wdoWord (levelOut wdo) refl)
+  unfolding answerChars
+  answer-plain = fields-plain _ _ _ _
 
 -- two answers with the same text are the same
 pub same-answer :

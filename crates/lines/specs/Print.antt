@@ -54,13 +54,13 @@ irqWord = bytesOf " irq="
 abbrev pub wdoWord : List ℕ
 wdoWord = bytesOf " wdo="
 
+-- T8. The four fields, with what each shows.
+unfoldable pub fieldsText : Out → Out → Out → Out → List ℕ
+fieldsText number out irq wdo = (noWord ++ outText number) ++ (outWord ++ outText out) ++ (irqWord ++ outText irq) ++ (wdoWord ++ outText wdo)
+
 -- T8. The characters of an answer: its number, `out`, and the two levels.
 unfoldable pub answerChars : ℕ → Out → Bool → Bool → List ℕ
-answerChars number out irq wdo =
-    (noWord ++ outText (Value number))
-    ++ (outWord ++ outText out)
-    ++ (irqWord ++ outText (levelOut irq))
-    ++ (wdoWord ++ outText (levelOut wdo))
+answerChars number out irq wdo = fieldsText (Value number) out (levelOut irq) (levelOut wdo)
 
 -- and as a line, which ends with a newline
 unfoldable pub answerLine : ℕ → Out → Bool → Bool → List ℕ

@@ -7,7 +7,7 @@ use lib.ListN.{length}
 use borrow.Author.Needs.{needs}
 use Rattle.text.specs.Buffer.{buffer}
 use Rattle.text.proofs.BufferLaws.{put-then}
-use Rattle.lines.specs.Print.{noWord, irqWord, wdoWord, answerChars, answerLine}
+use Rattle.lines.specs.Print.{noWord, irqWord, wdoWord, fieldsText, answerChars, answerLine}
 use Rattle.lines.proofs.PrintLaws.{number-room, level-room}
 use Rattle.lines.proofs.print.put_answer.Statement.{statement}
 use Rattle.lines.proofs.print.put_answer.Tie as tie
@@ -42,7 +42,7 @@ room-4 c =
     (p .kept .1 .1 .0) (room-3 q3)
 
 returns : tie.Need-returns
-unfolding answerChars answerLine
+unfolding fieldsText answerChars answerLine
 returns c =
     let f4 = c .before .before .before .before .before .before in
     let f3 = f4 .before .before .before .before .before .before in
