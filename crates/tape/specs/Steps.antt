@@ -14,11 +14,6 @@ use Rattle.answers.specs.Answer.{Setup, setup, lineAnswer}
 use Rattle.tape.specs.Tape.{state, fed, finished, linesFrom, tapeAnswers}
 use Rattle.tape.specs.Told.{Told, linesTold}
 
--- what is left after lines
-unfoldable pub setupAfter : Setup → List (List ℕ) → Setup
-setupAfter s [] = s
-setupAfter s (line ∷ lines) = setupAfter (lineAnswer line s .after) lines
-
 -- what is left at the end of a tape of these bytes
 abbrev pub leftAfter : World → List ℕ → Setup
 leftAfter w bytes = finished (fed (state (setup 0 w) []) bytes .after) .after .setup
@@ -35,3 +30,8 @@ pub record AccountsFor (t : Told) (s : Setup) : Type 0 where
 -- R8. So it is at the end of every tape, fed in chunks of any size, since chunks join; whatever lay in the memories before.
 unfoldable pub BytesAccounted : Type 0
 BytesAccounted = (bytes : List ℕ) (w : World) → AccountsFor (toldBy bytes (tapeAnswers bytes)) (leftAfter w bytes)
+
+-- What is left after lines. It is no part of the claim: the proof goes by lines, and a tape that is fed leaves the same.
+unfoldable pub setupAfter : Setup → List (List ℕ) → Setup
+setupAfter s [] = s
+setupAfter s (line ∷ lines) = setupAfter (lineAnswer line s .after) lines
