@@ -1,3 +1,4 @@
 pub mod Line
 pub mod Request
 pub mod Print
+pub mod Read

@@ -41,14 +41,30 @@ outOf number act reply count = pick (eqb number 0) (pick (showsCount act) (Value
 abbrev pub levelOut : Bool → Out
 levelOut high = Value (flag high)
 
--- T8. An answer's line: its number, `out`, and the two levels.
+-- T8. The words of an answer, each before what it shows.
+abbrev pub noWord : List ℕ
+noWord = bytesOf "no="
+
+abbrev pub outWord : List ℕ
+outWord = bytesOf " out="
+
+abbrev pub irqWord : List ℕ
+irqWord = bytesOf " irq="
+
+abbrev pub wdoWord : List ℕ
+wdoWord = bytesOf " wdo="
+
+-- T8. The four fields, with what each shows.
+unfoldable pub fieldsText : Out → Out → Out → Out → List ℕ
+fieldsText number out irq wdo = (noWord ++ outText number) ++ (outWord ++ outText out) ++ (irqWord ++ outText irq) ++ (wdoWord ++ outText wdo)
+
+-- T8. The characters of an answer: its number, `out`, and the two levels.
+unfoldable pub answerChars : ℕ → Out → Bool → Bool → List ℕ
+answerChars number out irq wdo = fieldsText (Value number) out (levelOut irq) (levelOut wdo)
+
+-- and as a line, which ends with a newline
 unfoldable pub answerLine : ℕ → Out → Bool → Bool → List ℕ
-answerLine number out irq wdo =
-    (bytesOf "no=" ++ outText (Value number))
-    ++ (bytesOf " out=" ++ outText out)
-    ++ (bytesOf " irq=" ++ outText (levelOut irq))
-    ++ (bytesOf " wdo=" ++ outText (levelOut wdo))
-    ++ (newline ∷ [])
+answerLine number out irq wdo = answerChars number out irq wdo ++ (newline ∷ [])
 
 -- the most bytes that a number of 64 bits takes, and a whole answer
 abbrev pub outRoom : ℕ

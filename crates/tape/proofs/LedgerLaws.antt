@@ -1,5 +1,5 @@
--- Demand 3 of a tape. Once a part is accepted, the lines that name acts run them as a list of acts runs, and the ticks printed for a wait
--- are those that it used; so the memories are the ledger's.
+-- Demand 3 of a tape. Once a part is accepted, the lines that name acts run them as a list of acts runs, and the ticks read from the answer to
+-- a wait are those that it used; so the memories are the ledger's.
 -- Assumes nothing.
 use mathlib.Core.Path.{_≡_, refl, sym, ap, subst, _∙_}
 use mathlib.Core.Bool.{true, false, true≢false}
@@ -14,20 +14,23 @@ use Rattle.record.proofs.PartLaws.{part-cases}
 use Rattle.record.specs.World.{World}
 use Rattle.acts.specs.Act.{Outcome, performed}
 use Rattle.acts.proofs.OutcomeLaws.{refused-same}
-use Rattle.ledger.specs.State.{Step, start}
-use Rattle.ledger.specs.Steps.{ledgerRun}
-use Rattle.run.specs.Claim.{Input, ourChip, worldAfter, stepsOf, named, usedBy, Accounted, DemandThree}
+use Rattle.ledger.specs.State.{Step}
+use Rattle.run.specs.Claim.{Input, ourChip, worldAfter, stepsOf, named, usedBy, DemandThree}
 use Rattle.run.proofs.DemandThree.{demand-three}
 use Rattle.run.proofs.RunLaws.{after-append, steps-append}
 use Rattle.lines.specs.declared.Request.{Request}
 use Rattle.lines.specs.declared.Request.the-variants.{PartLine, ActLine, Bad}
 use Rattle.lines.specs.Request.{requestOf}
+use Rattle.lines.specs.declared.Out.{Out}
 use Rattle.lines.specs.declared.Out.the-variants.{Value, Z}
 use Rattle.lines.specs.Print.{outOf}
-use Rattle.answers.specs.Answer.{Setup, setup, noPart, LineAnswer, refusedLine, outcomeAnswer, freshSetup, requestAnswer, lineAnswer}
-use Rattle.tape.specs.Tape.{linesFrom}
-use Rattle.tape.specs.Steps.{setupAfter, ticksShown, ticksPrinted, lineSteps, stepsFrom, TapeAccounted, BytesAccounted}
-use Rattle.tape.proofs.WholeLaws.{setup-lines}
+use Rattle.lines.specs.Read.{shownOr, numberRead}
+use Rattle.answers.specs.Answer.{Setup, setup, LineAnswer, answer, refusedLine, outcomeAnswer, freshSetup, requestAnswer, lineAnswer}
+use Rattle.tape.specs.Tape.{linesFrom, tapeAnswers, emptySetup}
+use Rattle.tape.specs.Told.{Told, tells, lineTold, stepsTold, partTold, linesTold}
+use Rattle.tape.specs.Steps.{setupAfter, toldBy, AccountsFor, BytesAccounted}
+use Rattle.tape.proofs.WholeLaws.{setup-lines, before-any}
+use Rattle.tape.proofs.ToldLaws.{charsOf, chars-number, chars-out, answerLines, answers-cut}
 
 -- the acts that lines name
 abbrev inputOf : Request → List Input
@@ -40,15 +43,15 @@ actsOf [] = []
 actsOf (line ∷ lines) = inputOf (requestOf line) ++ actsOf lines
 
 -- the ticks printed for a wait are those that it used
-wait-ticks : (o : Outcome) → (eqb (o .number) 0 ≡ false → o .count ≡ 0) → ticksShown (outOf (o .number) Wait (o .reply) (o .count)) ≡ o .count
+wait-ticks : (o : Outcome) → (eqb (o .number) 0 ≡ false → o .count ≡ 0) → shownOr 0 (outOf (o .number) Wait (o .reply) (o .count)) ≡ o .count
 wait-ticks o h =
     by-cases (eqb (o .number) 0)
-    (λ e. ap ticksShown (sym (yes (Value (o .count)) Z e)))
-    (λ e. ap ticksShown (sym (no (Value (o .count)) Z e)) ∙ sym (h e))
+    (λ e. ap (shownOr 0) (sym (yes (Value (o .count)) Z e)))
+    (λ e. ap (shownOr 0) (sym (no (Value (o .count)) Z e)) ∙ sym (h e))
 
 printed :
     (part : ℕ) (act : Act) (arg : ℕ) (w : World)
-    → ticksPrinted act (outcomeAnswer part act (performed part act arg w) .out) ≡ usedBy act (performed part act arg w .count)
+    → usedBy act (shownOr 0 (outcomeAnswer part act (performed part act arg w) .out)) ≡ usedBy act (performed part act arg w .count)
 printed part Select arg w = refl
 printed part Byte arg w = refl
 printed part End arg w = refl
@@ -65,14 +68,15 @@ module _ (part : ℕ) (some : eqb part 0 ≡ false) where
       ap (λ (x : LineAnswer). x .after) (sym (no (refusedLine 7 (setup part w)) (outcomeAnswer part act (performed part act arg w)) some))
   line-setup Bad w = refl
 
-  line-steps : (r : Request) (w : World) → lineSteps r (setup part w) (requestAnswer r (setup part w) .out) ≡ stepsOf ourChip part (inputOf r) w
+  line-steps : (r : Request) (w : World) → lineTold r (charsOf (requestAnswer r (setup part w))) ≡ stepsOf ourChip part (inputOf r) w
   unfolding stepsOf ourChip
   line-steps (PartLine arg) w = refl
   line-steps (ActLine act arg) w =
       let a = outcomeAnswer part act (performed part act arg w) in
-      ap (λ (x : LineAnswer). lineSteps (ActLine act arg) (setup part w) (x .out)) (sym (no (refusedLine 7 (setup part w)) a some))
-      ∙ sym (no [] (record { act = named act; arg = arg; used = ticksPrinted act (a .out) } ∷ []) some)
-      ∙ ap (λ (u : ℕ). record { act = named act; arg = arg; used = u } ∷ []) (printed part act arg w)
+      let step : ℕ → List Step = λ u. record { act = named act; arg = arg; used = u } ∷ [] in
+      ap (λ (x : LineAnswer). lineTold (ActLine act arg) (charsOf x)) (sym (no (refusedLine 7 (setup part w)) a some))
+      ∙ ap (λ (o : Out). step (usedBy act (shownOr 0 o))) (chars-out a)
+      ∙ ap step (printed part act arg w)
   line-steps Bad w = refl
 
   -- and so do lines
@@ -84,56 +88,62 @@ module _ (part : ℕ) (some : eqb part 0 ≡ false) where
       ∙ lines-setup lines (worldAfter ourChip part (inputOf (requestOf line)) w)
       ∙ ap (setup part) (sym (after-append ourChip part (inputOf (requestOf line)) (actsOf lines) w))
 
-  lines-steps : (lines : List (List ℕ)) (w : World) → stepsFrom (setup part w) lines ≡ stepsOf ourChip part (actsOf lines) w
-  unfolding stepsFrom actsOf lineAnswer stepsOf
+  lines-steps :
+      (lines : List (List ℕ)) (w : World) → stepsTold lines (answerLines (setup part w) lines) ≡ stepsOf ourChip part (actsOf lines) w
+  unfolding stepsTold answerLines actsOf lineAnswer stepsOf
   lines-steps [] w = refl
   lines-steps (line ∷ lines) w =
       let r = requestOf line in
-      ap (λ (x : List Step). x ++ stepsFrom (requestAnswer r (setup part w) .after) lines) (line-steps r w)
-      ∙ ap (λ (s : Setup). stepsOf ourChip part (inputOf r) w ++ stepsFrom s lines) (line-setup r w)
+      ap (λ (x : List Step). x ++ stepsTold lines (answerLines (requestAnswer r (setup part w) .after) lines)) (line-steps r w)
+      ∙ ap (λ (s : Setup). stepsOf ourChip part (inputOf r) w ++ stepsTold lines (answerLines s lines)) (line-setup r w)
       ∙ ap (λ (x : List Step). stepsOf ourChip part (inputOf r) w ++ x) (lines-steps lines (worldAfter ourChip part (inputOf r) w))
       ∙ sym (steps-append ourChip part (inputOf r) (actsOf lines) w)
-
--- a tape's claim of a setup and the steps that its lines tell
-abbrev Owes : Setup → List Step → Type 0
-Owes s steps = noPart s ≡ false → Accounted (s .part) (s .chip) (ledgerRun (s .part) steps start)
 
 is-some : (n : ℕ) → isPart n ≡ true → eqb n 0 ≡ false
 is-some = part-cases (λ (n : ℕ). eqb n 0 ≡ false) refl refl refl refl
 
 -- from an accepted part on
-fresh-owes : (n : ℕ) → isPart n ≡ true → (lines : List (List ℕ)) → Owes (setupAfter (freshSetup n) lines) (stepsFrom (freshSetup n) lines)
+fresh-owes :
+    (n : ℕ) → isPart n ≡ true → (lines : List (List ℕ))
+    → AccountsFor (tells n (stepsTold lines (answerLines (freshSetup n) lines))) (setupAfter (freshSetup n) lines)
 unfolding DemandThree
 fresh-owes n p lines =
     let k = is-some n p in
     let w = freshSetup n .chip in
     let s = lines-setup n k lines w in
     let f = lines-steps n k lines w in
-    subst (λ (y : Setup). Owes y (stepsFrom (freshSetup n) lines)) (sym s)
-    (subst (λ (y : List Step). Owes (setup n (worldAfter ourChip n (actsOf lines) w)) y) (sym f) (λ q. demand-three n p (actsOf lines)))
+    subst (λ (y : Setup). AccountsFor (tells n (stepsTold lines (answerLines (freshSetup n) lines))) y) (sym s)
+    (subst (λ (y : List Step). AccountsFor (tells n y) (setup n (worldAfter ourChip n (actsOf lines) w))) (sym f)
+    (record { same-part = refl; same-bytes = λ q. demand-three n p (actsOf lines) }))
 
--- before it
-line-owes :
-    (r : Request) (lines : List (List ℕ)) (w : World) → Owes (setupAfter (setup 0 w) lines) (stepsFrom (setup 0 w) lines)
-    → Owes (setupAfter (requestAnswer r (setup 0 w) .after) lines)
-    (lineSteps r (setup 0 w) (requestAnswer r (setup 0 w) .out) ++ stepsFrom (requestAnswer r (setup 0 w) .after) lines)
-line-owes (PartLine arg) lines w h =
-    pick-when (λ (a : LineAnswer). Owes (setupAfter (a .after) lines) (stepsFrom (a .after) lines)) (isPart arg) (λ p. fresh-owes arg p lines)
-    (λ p. h)
+-- before it: the claim of lines, and of a line with its answer before them
+abbrev Owed : List (List ℕ) → Setup → Type 0
+Owed lines s = AccountsFor (linesTold lines (answerLines s lines)) (setupAfter s lines)
+
+abbrev OwedAfter : Request → List (List ℕ) → LineAnswer → Type 0
+OwedAfter r lines a =
+    let answers : List (List ℕ) = answerLines (a .after) lines in
+    AccountsFor (partTold r (charsOf a) (stepsTold lines answers) (linesTold lines answers)) (setupAfter (a .after) lines)
+
+line-owes : (r : Request) (lines : List (List ℕ)) (w : World) → Owed lines (setup 0 w) → OwedAfter r lines (requestAnswer r (setup 0 w))
+line-owes (PartLine n) lines w h =
+    let zero : (a : LineAnswer) → eqb (numberRead (charsOf a)) 0 ≡ eqb (a .number) 0 = λ a. ap (λ (k : ℕ). eqb k 0) (chars-number a) in
+    pick-when (OwedAfter (PartLine n) lines) (isPart n)
+    (λ p.
+    subst (λ (t : Told). AccountsFor t (setupAfter (freshSetup n) lines)) (yes _ _ (zero (answer 0 Z (freshSetup n)))) (fresh-owes n p lines))
+    (λ p. subst (λ (t : Told). AccountsFor t (setupAfter (setup 0 w) lines)) (no _ _ (zero (refusedLine 3 (setup 0 w)))) h)
 line-owes (ActLine act arg) lines w h = h
 line-owes Bad lines w h = h
 
-tape-owes : (lines : List (List ℕ)) (w : World) → Owes (setupAfter (setup 0 w) lines) (stepsFrom (setup 0 w) lines)
-unfolding setupAfter stepsFrom lineAnswer
-tape-owes [] w = λ q. absurd (true≢false q)
+tape-owes : (lines : List (List ℕ)) (w : World) → Owed lines (setup 0 w)
+unfolding setupAfter linesTold answerLines lineAnswer
+tape-owes [] w = record { same-part = refl; same-bytes = λ q. absurd (true≢false q) }
 tape-owes (line ∷ lines) w = line-owes (requestOf line) lines w (tape-owes lines w)
 
-pub tape-accounted : TapeAccounted
-unfolding TapeAccounted
-tape-accounted lines w = tape-owes lines w
-
 pub bytes-accounted : BytesAccounted
-unfolding BytesAccounted
+unfolding BytesAccounted tapeAnswers
 bytes-accounted bytes w =
-    subst (λ (s : Setup). Owes s (stepsFrom (setup 0 w) (linesFrom [] bytes))) (sym (setup-lines bytes (setup 0 w) []))
-    (tape-owes (linesFrom [] bytes) w)
+    let lines = linesFrom [] bytes in
+    let e = ap (linesFrom []) (before-any lines (emptySetup .chip) w) ∙ answers-cut lines (setup 0 w) in
+    subst (λ (s : Setup). AccountsFor (toldBy bytes (tapeAnswers bytes)) s) (sym (setup-lines bytes (setup 0 w) []))
+    (subst (λ (answers : List (List ℕ)). AccountsFor (linesTold lines answers) (setupAfter (setup 0 w) lines)) (sym e) (tape-owes lines w))

@@ -1,4 +1,5 @@
 pub mod TapeLaws
 pub mod WholeLaws
+pub mod ToldLaws
 pub mod LedgerLaws
 pub mod WholeCaseLaws

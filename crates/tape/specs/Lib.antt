@@ -1,3 +1,4 @@
 pub mod Tape
+pub mod Told
 pub mod Steps
 pub mod WholeCase

@@ -12,7 +12,7 @@ use native.Mathlib.Numerals.{add-one}
 use native.Mathlib.Omega.{arith}
 use borrow.Author.Tests.{eq-eqb, eqb-true, not-true}
 use lib.Dec.{eqb}
-use lib.ListN.{length, getD, drop, take, drop-of-length-le}
+use lib.ListN.{length, getD, drop, take, drop-of-length-le, length-append}
 use lib.Seq.{drop-cons, drop-length}
 use Rattle.base.proofs.Tests.{by-cases, yes, no, pick-case, both-left, both-right, both-true}
 use Rattle.text.specs.Bytes.{bytesOf, agreed, begins, isWord, leading, chosen, Listed, allRows, apart}
@@ -87,6 +87,18 @@ leading-append kind [] t e = sym (zero-add (leading kind t))
 leading-append kind (b ∷ s) t e =
     simp (leading-first kind b s e)
     (ap suc (leading-append kind s t (leading-rest kind b s e)) ∙ sym (suc-add (length s) (leading kind t)))
+
+pub leading-join :
+    (kind : ℕ → Bool) (s t : List ℕ) → leading kind s ≡ length s → leading kind t ≡ length t → leading kind (s ++ t) ≡ length (s ++ t)
+leading-join kind s t d e = leading-append kind s t d ∙ ap (λ (n : ℕ). length s + n) e ∙ sym (length-append s t)
+
+-- bytes of a kind are of every wider kind
+pub leading-other :
+    (kind other : ℕ → Bool) → ((b : ℕ) → kind b ≡ true → other b ≡ true) → (s : List ℕ) → leading kind s ≡ length s → leading other s ≡ length s
+unfolding leading
+leading-other kind other h [] e = refl
+leading-other kind other h (b ∷ s) e =
+    simp (h b (leading-first kind b s e)) (ap suc (leading-other kind other h s (leading-rest kind b s e)))
 
 -- a list that agrees with a whole word is the word and the rest
 pub agreed-with : (word s : List ℕ) → agreed word s ≡ length word → s ≡ word ++ drop (length word) s

@@ -2,13 +2,13 @@
 -- and that reader and printer are inverse.
 -- Assumes nothing.
 use mathlib.Core.Path.{_≡_, refl, sym, ap, _∙_}
-use mathlib.Core.Bool.{true, false, and-false}
+use mathlib.Core.Bool.{true, false, not, and-false}
 use mathlib.Core.List.{List, [], _∷_, _++_, append-nil}
 use Prim.Native.Nat.{ℕ, zero, suc, _+_, _*_, _/_, _%_, _^_, _<_, _≤_}
 use native.Mathlib.Nat.{not-suc-le-zero, pow-suc}
 use native.Mathlib.Numerals.{add-one}
 use native.Mathlib.Omega.{arith}
-use borrow.Author.Tests.{lt-ltb, le-ltb, le-leb, ne-eqb, ltb-true, ltb-false, leb-true, eqb-false}
+use borrow.Author.Tests.{lt-ltb, le-ltb, le-leb, eq-eqb, ne-eqb, ltb-true, ltb-false, leb-true, eqb-false}
 use lib.Dec.{leb, ltb, eqb}
 use lib.ListN.{length, getD, drop, length-append, drop-of-length-le, List·getD-append}
 use lib.Seq.{drop-cons, append-snoc}
@@ -16,8 +16,8 @@ use Rattle.base.specs.Words.{every}
 use Rattle.base.proofs.Tests.{by-cases, pick-when, both-left, both-right, both-true, true-false}
 use Rattle.base.proofs.Every.{bound-below}
 use Rattle.text.specs.Bytes.{leading, digit}
-use Rattle.text.specs.Decimal.{needlessZero, digitText, digitValue, valueFrom, valueOf, readLimit, textWithin, decimalText}
-use Rattle.text.proofs.BytesLaws.{leading-first, leading-rest, leading-append}
+use Rattle.text.specs.Decimal.{needlessZero, isDecimal, digitText, digitValue, valueFrom, valueOf, readLimit, textWithin, decimalText}
+use Rattle.text.proofs.BytesLaws.{leading-first, leading-rest, leading-join, leading-other}
 
 -- one more digit, and no more
 pub value-more :
@@ -163,9 +163,12 @@ one-digit d h = simp (le-leb 48 (48 + d) (omega arith), le-leb (48 + d) 57 (omeg
 pub decimal-digits : (n : ℕ) → leading digit (decimalText n) ≡ length (decimalText n)
 decimal-digits =
     decimal-each (λ n s. leading digit s ≡ length s) one-digit
-    (λ n s h e.
-    let d = digitText (n % 10) ∷ [] in
-    leading-append digit s d e ∙ ap (λ (m : ℕ). length s + m) (one-digit (n % 10) (omega arith)) ∙ sym (length-append s d))
+    (λ n s h e. leading-join digit s (digitText (n % 10) ∷ []) e (one-digit (n % 10) (omega arith)))
+
+-- and no byte below the digits stands in it, such as a blank or a newline
+pub decimal-without : (c n : ℕ) → c < 48 → leading (λ b. not (eqb b c)) (decimalText n) ≡ length (decimalText n)
+decimal-without c n h =
+    leading-other digit (λ b. not (eqb b c)) (λ b e. let d = is-digit b e in ap not (ne-eqb b c (λ q. omega arith))) (decimalText n) (decimal-digits n)
 
 first-digit : (n : ℕ) → (0 < length (decimalText n)) × (0 < n → eqb (getD (decimalText n) 0 0) 48 ≡ false)
 first-digit =
@@ -183,3 +186,9 @@ decimal-needed n =
     (λ e.
     let z : n ≡ 0 = omega (arith, ltb-false 0 n e) in
     simp (decimal-small n (omega arith)))
+
+pub decimal-is : (n : ℕ) → isDecimal (decimalText n) ≡ true
+decimal-is n =
+    let s = decimalText n in
+    both-true (both-true (lt-ltb 0 (length s) (decimal-some n)) (eq-eqb (leading digit s) (length s) (decimal-digits n)))
+    (ap not (decimal-needed n))

@@ -1,15 +1,20 @@
 -- Decimals: the value of digits, and the digits of a value. How many digits a number may have is its user's rule.
 -- Assumes nothing.
 use Prim.Native.Nat.{ℕ, zero, suc, _+_, _-_, _*_, _/_, _%_}
-use mathlib.Core.Bool.{Bool, _&&_}
+use mathlib.Core.Bool.{Bool, not, _&&_}
 use mathlib.Core.List.{List, [], _∷_, _++_}
 use lib.Dec.{ltb, eqb}
 use lib.ListN.{length, getD}
 use Rattle.base.specs.Words.{pick}
+use Rattle.text.specs.Bytes.{leading, digit}
 
 -- a first digit 0 with more digits after it
 abbrev pub needlessZero : List ℕ → Bool
 needlessZero s = ltb 1 (length s) && eqb (getD s 0 0) 0x30
+
+-- digits alone, one at least, and no needless zero
+abbrev pub isDecimal : List ℕ → Bool
+isDecimal s = ltb 0 (length s) && eqb (leading digit s) (length s) && not (needlessZero s)
 
 -- a digit's character and its value
 abbrev pub digitText : ℕ → ℕ

@@ -5,10 +5,9 @@ use mathlib.Core.Path.{_∙_}
 use Prim.Native.Nat.{_+_, _^_, _<_, _≤_}
 use lib.ListN.{length}
 use borrow.Author.Needs.{needs}
-use Rattle.text.specs.Bytes.{bytesOf}
 use Rattle.text.specs.Buffer.{buffer}
 use Rattle.text.proofs.BufferLaws.{put-then}
-use Rattle.lines.specs.Print.{answerLine}
+use Rattle.lines.specs.Print.{noWord, irqWord, wdoWord, fieldsText, answerChars, answerLine}
 use Rattle.lines.proofs.PrintLaws.{number-room, level-room}
 use Rattle.lines.proofs.print.put_answer.Statement.{statement}
 use Rattle.lines.proofs.print.put_answer.Tie as tie
@@ -19,7 +18,7 @@ room-1 c =
     let b = c .before .before .before .before in
     let p = c .put-field in
     let h : b .args .number < 10 ^ 3 = omega (arith, b .fits .number) in
-    number-room 2 (b .args .number) 58 (buffer (b .args .into .now) (b .args .at)) (bytesOf "no=") h (p .ensures .0) (p .kept .1 .1 .0) (b .pre)
+    number-room 2 (b .args .number) 58 (buffer (b .args .into .now) (b .args .at)) noWord h (p .ensures .0) (p .kept .1 .1 .0) (b .pre)
 
 room-2 : (c : tie.After-put-field2) → c .put-field2 .result + 33 ≤ length (c .put-field2 .last .1 .1 .0)
 room-2 c = omega (arith, room-1 (c .before .before .before .before .before), c .put-field2 .ensures .1, c .put-field2 .kept .1 .1 .0)
@@ -30,7 +29,7 @@ room-3 c =
     let q = q2 .put-field2 in
     let p = c .put-field3 in
     let a = q2 .before .before .before .before .before .before .before .before .before .args in
-    level-room 27 (buffer (q .last .1 .1 .0) (q .result)) (bytesOf " irq=") (a .irq) (c .before .before .level .ensures) (p .ensures .0)
+    level-room 27 (buffer (q .last .1 .1 .0) (q .result)) irqWord (a .irq) (c .before .before .level .ensures) (p .ensures .0)
     (p .kept .1 .1 .0) (room-2 q2)
 
 room-4 : (c : tie.After-put-field4) → c .put-field4 .result + 21 ≤ length (c .put-field4 .last .1 .1 .0)
@@ -39,11 +38,11 @@ room-4 c =
     let q = q3 .put-field3 in
     let p = c .put-field4 in
     let a = q3 .before .before .before .before .before .before .before .before .before .before .before .before .before .before .before .args in
-    level-room 21 (buffer (q .last .1 .1 .0) (q .result)) (bytesOf " wdo=") (a .wdo) (c .before .before .level2 .ensures) (p .ensures .0)
+    level-room 21 (buffer (q .last .1 .1 .0) (q .result)) wdoWord (a .wdo) (c .before .before .level2 .ensures) (p .ensures .0)
     (p .kept .1 .1 .0) (room-3 q3)
 
 returns : tie.Need-returns
-unfolding answerLine
+unfolding fieldsText answerChars answerLine
 returns c =
     let f4 = c .before .before .before .before .before .before in
     let f3 = f4 .before .before .before .before .before .before in
