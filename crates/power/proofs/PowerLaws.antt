@@ -1,14 +1,14 @@
--- How many bytes a power cut stores, and what a cut and power up keep: a record in range, and the lengths of its lists and memories.
+-- How many bytes a power cut stores, and what a cut and power up keep: a record in range, the lengths of its lists and memories, and bytes.
 -- Assumes nothing.
 use Prim.Native.Nat.{ℕ, _+_, _%_, _<_, _≤_}
 use native.Mathlib.Omega.{arith}
-use mathlib.Core.Path.{_≡_, refl, sym, _∙_}
-use mathlib.Core.Bool.{Bool, false, true≢false}
+use mathlib.Core.Path.{_≡_, refl, sym}
+use mathlib.Core.Bool.{Bool, true, false, true≢false}
 use mathlib.Core.List.{List}
 use lib.Bits.{bitAnd, and-le-r}
 use lib.Count.{ones, ones-le}
 use lib.Dec.{eqb}
-use lib.ListN.{length, getD, set, length-set, length-replicate}
+use lib.ListN.{length, getD, set, length-set}
 use mir.Val.{Fits}
 use mir.Syntax.{w8}
 use Rattle.base.specs.Words.{every, bit, flag, members, changes}
@@ -24,14 +24,14 @@ use Rattle.record.specs.Address.{pageOf}
 use Rattle.record.specs.Fresh.{fresh}
 use Rattle.record.specs.Part.{bootsOf}
 use Rattle.record.specs.Registers.{vbaten, secondsAt, watchdogAt}
-use Rattle.record.specs.Setters.{withWatchdog, withDelay, withPulse}
+use Rattle.record.specs.Setters.{withWatchdog, withDelay, withPulse, withPower}
 use Rattle.record.specs.Stored.{storedSet}
-use Rattle.record.specs.World.{World, Sized}
+use Rattle.record.specs.World.{World, Bytes, Sized}
 use Rattle.record.proofs.PeriodLaws.{period-least}
+use Rattle.record.proofs.WorldLaws.{sized-by, replicate-bytes, Array, eeprom-kept, id-kept}
 use Rattle.refusals.specs.InRange.{InRange}
 use Rattle.refusals.proofs.RangeLaws.{fresh-facts}
 use Rattle.refusals.proofs.KeepLaws.{ClockOf, Beside, beside, watchdog-in, delay-in, pulse-in, regs-in, set-inside, in-range-beside}
-use Rattle.ticks.proofs.WaitLaws.{eeprom-after-length, id-after-length}
 use Rattle.power.specs.Power.{watchdogCut, forgotten, stoppedBy, afterCut, cutCount, cutWorld, afterUp}
 
 -- The ones of the loaded offsets under a mask are the offsets that are stored.
@@ -89,23 +89,31 @@ cut-in-range part mask d r =
 pub cut-sized : (mask : ℕ) (d : Device) → Sized d → Sized (afterCut mask d)
 cut-sized mask d z =
     cut-case Sized mask d
-    (record { regs = length-set (d .regs) watchdogAt _ ∙ z .regs; sram = z .sram; bytes = z .bytes; offsets = z .offsets })
-    (record { regs = refl; sram = length-replicate {A = ℕ} 64 0; bytes = z .bytes; offsets = z .offsets })
+    (sized-by d (watchdogCut (stoppedBy mask d)) (length-set (d .regs) watchdogAt _) refl refl z)
+    (record {
+      regs = refl;
+      sram = refl;
+      bytes = z .bytes;
+      offsets = z .offsets;
+      sramBytes = replicate-bytes 64 0 (omega arith);
+      loadBytes = z .loadBytes;
+    })
 
--- a cut keeps the lengths of both memories
+-- a cut keeps the lengths of both memories, and their bytes
 pub cut-device : (mask : ℕ) (w : World) → cutWorld mask w .device ≡ afterCut mask (w .device)
 unfolding cutWorld
 cut-device mask w = refl
 
-pub cut-lengths :
-    (mask : ℕ) (w : World) → (length (cutWorld mask w .eeprom) ≡ length (w .eeprom)) × (length (cutWorld mask w .id) ≡ length (w .id))
+pub cut-arrays :
+    (mask n k : ℕ) (w : World) → Bytes (w .device .load .bytes) → Array n (w .eeprom) × Array k (w .id)
+    → Array n (cutWorld mask w .eeprom) × Array k (cutWorld mask w .id)
 unfolding cutWorld
-cut-lengths mask w = (
-  pick-case (λ (m : List ℕ). length m ≡ length (w .eeprom)) (eqb (w .device .cycle .left) 0) refl
-      (eeprom-after-length (w .device .load) mask (w .eeprom) (w .device .cycle .target)),
-  pick-case (λ (m : List ℕ). length m ≡ length (w .id)) (eqb (w .device .cycle .left) 0) refl
-      (id-after-length (w .device .load) mask (w .id) (w .device .cycle .target)),
-)
+cut-arrays mask n k w b (e, i) =
+    let d : Device = w .device in
+    let none : Bool = eqb (d .cycle .left) 0 in (
+      pick-case (Array n) none e (eeprom-kept n (d .load) mask (w .eeprom) b e (d .cycle .target)),
+      pick-case (Array k) none i (id-kept k (d .load) mask (w .id) b i (d .cycle .target)),
+    )
 
 -- W9. The count that a cut answers is the number of bytes that it changed, where every loaded byte is another than the one at its place.
 module _ (mask : ℕ) (w : World) (runs : eqb (w .device .cycle .left) 0 ≡ false) where
@@ -136,4 +144,4 @@ up-in-range part d r =
 
 pub up-sized : (d : Device) → Sized d → Sized (afterUp d)
 unfolding afterUp
-up-sized d z = record { regs = z .regs; sram = z .sram; bytes = z .bytes; offsets = z .offsets }
+up-sized d = sized-by d (withPower d true) refl refl refl

@@ -1,9 +1,8 @@
 -- Laws of a wait of the chip: what it does to a write cycle and the memories, that the record's wait and one store of a page serve, and that it
--- keeps every length. Where it stops, and how it splits, are the laws of any wait (base).
+-- keeps the number of registers. Where it stops, and how it splits, are the laws of any wait (base).
 -- Assumes nothing.
 use mathlib.Core.Path.{_≡_, refl, sym, ap, _∙_}
 use mathlib.Core.Bool.{Bool, true, false, not, _&&_, and-false}
-use mathlib.Core.List.{List}
 use mathlib.Core.Logic.{_⊎_, inl, inr, ⊎-elim, _≢_}
 use Prim.Native.Nat.{ℕ, zero, suc, _-_, _<_, _≤_}
 use native.Mathlib.Numerals.{add-one}
@@ -14,12 +13,8 @@ use lib.ListN.{length}
 use Rattle.base.specs.Words.{pick}
 use Rattle.base.specs.Wait.{Waited, plus}
 use Rattle.base.proofs.Tests.{by-cases, no, neither-left, both-true, true-false}
-use Rattle.base.proofs.StoreLaws.{store-length}
 use Rattle.base.proofs.WaitLaws.{wait-none, wait-go, wait-each, wait-map}
 use Rattle.record.specs.declared.Device.{Device}
-use Rattle.record.specs.declared.Load.{Load}
-use Rattle.record.specs.declared.Target.{Target}
-use Rattle.record.specs.declared.Target.the-variants.{Eeprom, Id, Status}
 use Rattle.record.specs.World.{World}
 use Rattle.record.specs.Stored.{wholeMask, eepromAfter, idAfter, protectionAfter}
 use Rattle.refusals.specs.InRange.{InRange}
@@ -194,17 +189,7 @@ ended-left d e = ap (λ (b : Bool). not b && eqb (e .cycle .left) 0) (zero-test 
     twice true = refl
     twice false = refl
 
--- Lengths.
-pub eeprom-after-length : (l : Load) (mask : ℕ) (ee : List ℕ) (t : Target) → length (eepromAfter l mask ee t) ≡ length ee
-eeprom-after-length l mask ee (Eeprom a) = store-length ee _ _ _ 8
-eeprom-after-length l mask ee (Id a) = refl
-eeprom-after-length l mask ee (Status p) = refl
-
-pub id-after-length : (l : Load) (mask : ℕ) (id : List ℕ) (t : Target) → length (idAfter l mask id t) ≡ length id
-id-after-length l mask id (Eeprom a) = refl
-id-after-length l mask id (Id a) = store-length id _ _ _ 8
-id-after-length l mask id (Status p) = refl
-
+-- There are as many registers after a wait.
 pub wait-regs-length : (boots : Bool) (n : ℕ) (d : Device) → length (deviceWaited boots n d .after .regs) ≡ length (d .regs)
 wait-regs-length boots =
     wait-each (deviceTick boots) changed (λ n d r. length (r .after .regs) ≡ length (d .regs))
