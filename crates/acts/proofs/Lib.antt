@@ -2,3 +2,4 @@ pub mod AcceptedLaws
 pub mod ValidLaws
 pub mod PageLaws
 pub mod OutcomeLaws
+pub mod BoundLaws

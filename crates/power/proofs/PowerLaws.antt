@@ -12,20 +12,22 @@ use lib.ListN.{length, getD, set, length-set}
 use mir.Val.{Fits}
 use mir.Syntax.{w8}
 use Rattle.base.specs.Words.{every, bit, flag, members, changes}
-use Rattle.base.proofs.Tests.{pick-case}
+use Rattle.base.proofs.Tests.{pick-case, flag-below}
 use Rattle.base.proofs.Every.{same-below}
-use Rattle.base.proofs.BitLaws.{count-ones, below-mask}
+use Rattle.base.proofs.BitLaws.{count-ones, members-most, below-mask}
 use Rattle.base.proofs.StoreLaws.{set-case, store-changes}
 use Rattle.record.specs.declared.Device.{Device}
 use Rattle.record.specs.declared.EepromAddress.{EepromAddress}
 use Rattle.record.specs.declared.IdAddress.{IdAddress}
-use Rattle.record.specs.declared.Target.the-variants.{Eeprom, Id}
+use Rattle.record.specs.declared.Load.{Load}
+use Rattle.record.specs.declared.Target.{Target}
+use Rattle.record.specs.declared.Target.the-variants.{Eeprom, Id, Status}
 use Rattle.record.specs.Address.{pageOf}
 use Rattle.record.specs.Fresh.{fresh}
 use Rattle.record.specs.Part.{bootsOf}
 use Rattle.record.specs.Registers.{vbaten, secondsAt, watchdogAt}
 use Rattle.record.specs.Setters.{withWatchdog, withDelay, withPulse, withPower}
-use Rattle.record.specs.Stored.{storedSet}
+use Rattle.record.specs.Stored.{storedSet, storedCount}
 use Rattle.record.specs.World.{World, Bytes, Sized}
 use Rattle.record.proofs.PeriodLaws.{period-least}
 use Rattle.record.proofs.WorldLaws.{sized-by, replicate-bytes, Array, eeprom-kept, id-kept}
@@ -114,6 +116,16 @@ cut-arrays mask n k w b (e, i) =
       pick-case (Array n) none e (eeprom-kept n (d .load) mask (w .eeprom) b e (d .cycle .target)),
       pick-case (Array k) none i (id-kept k (d .load) mask (w .id) b i (d .cycle .target)),
     )
+
+-- The count of a cut is at most 8.
+stored-most : (l : Load) (mask : ℕ) (t : Target) → storedCount l mask t ≤ 8
+stored-most l mask (Eeprom a) = members-most (storedSet l mask) 8
+stored-most l mask (Id a) = members-most (storedSet l mask) 8
+stored-most l mask (Status p) = omega (arith, flag-below (bit mask 0))
+
+pub cut-most : (mask : ℕ) (d : Device) → cutCount mask d ≤ 8
+unfolding cutCount
+cut-most mask d = pick-case (λ (n : ℕ). n ≤ 8) (eqb (d .cycle .left) 0) (omega arith) (stored-most (d .load) mask (d .cycle .target))
 
 -- W9. The count that a cut answers is the number of bytes that it changed, where every loaded byte is another than the one at its place.
 module _ (mask : ℕ) (w : World) (runs : eqb (w .device .cycle .left) 0 ≡ false) where
