@@ -3,3 +3,4 @@ pub mod SuitedLaws
 pub mod ValidLaws
 pub mod PageLaws
 pub mod OutcomeLaws
+pub mod BoundLaws

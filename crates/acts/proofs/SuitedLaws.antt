@@ -3,32 +3,32 @@
 -- Assumes nothing.
 use Prim.Native.Nat.{ℕ}
 use mathlib.Core.Path.{_≡_, refl, sym, ap, subst, _∙_}
-use mathlib.Core.Bool.{Bool, true, false}
+use mathlib.Core.Bool.{false}
 use mathlib.Core.List.{List}
 use borrow.Author.Tests.{not-false, eqb-true}
 use lib.Dec.{eqb}
 use lib.ListN.{length}
 use Rattle.base.specs.Wait.{Waited}
-use Rattle.base.specs.Words.{pick}
 use Rattle.base.proofs.Tests.{pick-when}
 use Rattle.record.specs.declared.Act.{Act}
 use Rattle.record.specs.declared.Act.the-variants.{Select, Byte, End, Wait, Cut, Up}
 use Rattle.record.specs.declared.Device.{Device}
 use Rattle.record.specs.Part.{bootsOf}
 use Rattle.record.specs.Stored.{wholeMask}
+use Rattle.record.proofs.WorldLaws.{page-length}
 use Rattle.record.specs.World.{World}
 use Rattle.refusals.specs.InRange.{InRange}
 use Rattle.refusals.specs.Refusal.{wrongPower, setupRefusal}
 use Rattle.refusals.proofs.RangeLaws.{in-range, out-of-range}
 use Rattle.refusals.proofs.TableLaws as table
 use Rattle.ticks.specs.Tick.{waited}
-use Rattle.ticks.specs.RecordTick.{deviceWaited, ended}
-use Rattle.ticks.proofs.WaitLaws.{wait-spent, wait-device, eeprom-after-length, id-after-length}
+use Rattle.ticks.specs.RecordTick.{deviceWaited}
+use Rattle.ticks.proofs.WaitLaws.{wait-memories, wait-device}
 use Rattle.ticks.proofs.RangeLaws.{wait-in-range}
 use Rattle.frames.proofs.FrameLaws.{select-in-range, byte-in-range}
 use Rattle.ends.proofs.EndLaws.{end-in-range}
 use Rattle.power.specs.Power.{cutWorld}
-use Rattle.power.proofs.PowerLaws.{cut-in-range, cut-device, cut-lengths, up-in-range}
+use Rattle.power.proofs.PowerLaws.{cut-in-range, cut-device, cut-memories, up-in-range}
 use Rattle.acts.specs.Act.{Outcome, accepted, refusalIn, performed}
 
 -- a world after another: its record is in range, and its memories are as long as before
@@ -37,31 +37,24 @@ pub record Follows (part : ℕ) (v w : World) : Type 0 where
   pub eeprom : length (w .eeprom) ≡ length (v .eeprom)
   pub id : length (w .id) ≡ length (v .id)
 
--- a memory that may be stored into
-stored-length : (b : Bool) (m n : List ℕ) → length m ≡ length n → length (pick b m n) ≡ length n
-stored-length true m n l = l
-stored-length false m n l = refl
+-- a memory as long as another
+abbrev AsLong : List ℕ → List ℕ → Type 0
+AsLong m x = length x ≡ length m
 
 wait-follows : (part n : ℕ) (w : World) → InRange part (w .device) → Follows part w (waited (bootsOf part) n w .after)
 wait-follows part n w r =
     let boots = bootsOf part in
-    let s = wait-spent part boots n w r in
-    let d = w .device in
-    let e = waited boots n w .after .device in
-    let q : deviceWaited boots n d .after ≡ e = ap (λ (x : Waited Device). x .after) (wait-device boots n w) in
-    record {
-      range = subst (InRange part) q (wait-in-range part n d r);
-      eeprom = ap length (s .eeprom) ∙ stored-length (ended d e) _ _ (eeprom-after-length (d .load) wholeMask (w .eeprom) (d .cycle .target));
-      id = ap length (s .id) ∙ stored-length (ended d e) _ _ (id-after-length (d .load) wholeMask (w .id) (d .cycle .target));
-    }
+    let l = w .device .load in
+    let q : deviceWaited boots n (w .device) .after ≡ waited boots n w .after .device = ap (λ (x : Waited Device). x .after) (wait-device boots n w) in
+    let m =
+    wait-memories (AsLong (w .eeprom)) (AsLong (w .id)) part boots n w r refl (page-length l wholeMask (w .eeprom)) refl (page-length l wholeMask (w .id)) in
+    record { range = subst (InRange part) q (wait-in-range part n (w .device) r); eeprom = m .0; id = m .1 }
 
 cut-follows : (part mask : ℕ) (w : World) → InRange part (w .device) → Follows part w (cutWorld mask w)
 cut-follows part mask w r =
-    record {
-      range = subst (InRange part) (sym (cut-device mask w)) (cut-in-range part mask (w .device) r);
-      eeprom = cut-lengths mask w .0;
-      id = cut-lengths mask w .1;
-    }
+    let l = w .device .load in
+    let m = cut-memories (AsLong (w .eeprom)) (AsLong (w .id)) mask w refl (page-length l mask (w .eeprom)) refl (page-length l mask (w .id)) in
+    record { range = subst (InRange part) (sym (cut-device mask w)) (cut-in-range part mask (w .device) r); eeprom = m .0; id = m .1 }
 
 -- an accepted act; those of a frame find power on
 pub accepted-follows :

@@ -2,7 +2,7 @@
 -- Assumes nothing.
 use mathlib.Core.Path.{_≡_, refl, sym, ap, _∙_}
 use mathlib.Core.Bool.{false, Bool·beq, _&&_, _||_}
-use Prim.Native.Nat.{ℕ, _-_, _/_, _%_, _<_, _^_, min, max}
+use Prim.Native.Nat.{ℕ, zero, suc, _-_, _/_, _%_, _<_, _≤_, _^_, min, max}
 use native.Mathlib.Omega.{arith}
 use lib.Dec.{eqb, ltb}
 use borrow.Author.Tests.{eqb-true, eq-eqb, ltb-true, lt-ltb}
@@ -11,13 +11,19 @@ use lib.Bits.{bitAnd, bitOr, and-step, and-shr, and-le-l, or-step, or-shr, or-ad
 use lib.Pow.{pow-pos}
 use lib.Count.{ones, onesIn}
 use Rattle.base.specs.Words.{every, bit, members}
-use Rattle.base.proofs.Tests.{same→eq, true-T}
+use Rattle.base.proofs.Tests.{same→eq, true-T, flag-below}
 use Rattle.base.proofs.Every.{every-at, same-below}
 
 -- how many ones a byte has is how many offsets are in the set
 pub count-ones : (s : ℕ) → s < 256 → ones s ≡ members s 8
 unfolding ones onesIn members every
 count-ones s h = same-below ones (λ (n : ℕ). members n 8) 256 refl s h
+
+-- a set has at most n members below n
+pub members-most : (s n : ℕ) → members s n ≤ n
+unfolding members
+members-most s zero = omega arith
+members-most s (suc n) = omega (arith, members-most s n, flag-below (bit s n))
 
 -- a mask of the lowest k bits keeps a byte exactly where the byte has no bit above them
 low-mask : (k : ℕ) → k < 9 → (b : ℕ) → b < 256 → eqb (bitAnd b (2 ^ k - 1)) b ≡ ltb b (2 ^ k)

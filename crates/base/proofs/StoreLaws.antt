@@ -46,6 +46,23 @@ pub set-each :
     (P : ℕ → ℕ → Type 0) (l : List ℕ) (i v : ℕ) → P i v → ((k : ℕ) → P k (getD l k 0)) → (k : ℕ) → P k (getD (set l i v) k 0)
 set-each P l i v p q k = set-case (P k) l i k v (λ e. subst (λ (j : ℕ). P j v) (sym e) p) (q k)
 
+-- what holds of each byte that is stored and of each that was there holds of each after the store
+pub store-each :
+    (P : ℕ → Type 0) (m : List ℕ) (base s : ℕ) (bytes : List ℕ) (n : ℕ)
+    → ((k : ℕ) → P (getD bytes k 0)) → ((k : ℕ) → P (getD m k 0)) → (k : ℕ) → P (getD (storeUnder m base s bytes n) k 0)
+unfolding storeUnder
+store-each P m base s bytes zero p q = q
+store-each P m base s bytes (suc n) p q =
+    let r = store-each P m base s bytes n p q in
+    pick-case (λ (l : List ℕ). (k : ℕ) → P (getD l k 0)) (bit s n)
+    (set-each (λ k v. P v) (storeUnder m base s bytes n) (base + n) (getD bytes n 0) (p n) r) r
+
+-- and of each of a list of one value, past its end too
+pub replicate-each : (P : ℕ → Type 0) (n v : ℕ) → P v → P 0 → (k : ℕ) → P (getD (replicate n v) k 0)
+replicate-each P zero v p q k = q
+replicate-each P (suc n) v p q zero = p
+replicate-each P (suc n) v p q (suc k) = replicate-each P n v p q k
+
 set-right : (x y : List ℕ) (i v : ℕ) → set (x ++ y) (length x + i) v ≡ x ++ set y i v
 set-right [] y i v = ap (λ (k : ℕ). set y k v) (zero-add i)
 set-right (b ∷ x) y i v = ap (λ (k : ℕ). set (b ∷ (x ++ y)) k v) (suc-add (length x) i) ∙ ap (λ (l : List ℕ). b ∷ l) (set-right x y i v)

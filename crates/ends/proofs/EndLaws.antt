@@ -1,4 +1,4 @@
--- What the end of a frame keeps: a record in range, and the lengths of its lists. And a law of a stage whose code writes through a cycle.
+-- What the end of a frame keeps: a record in range, the lengths of its lists, and bytes. And a law of a stage whose code writes through a cycle.
 -- Not how WEL and the lock move.
 -- Assumes nothing.
 use Prim.Native.Nat.{ℕ, _<_}
@@ -25,9 +25,10 @@ use Rattle.record.specs.declared.Target.{Target}
 use Rattle.record.specs.Part.{topOf, sizeOf, bootsOf}
 use Rattle.record.specs.Registers.{watchdogAt, periodOf}
 use Rattle.record.specs.Stages.{writingCode, secondCode, overCode, codeAt, framePlace, cyclePlace}
-use Rattle.record.specs.World.{Sized}
+use Rattle.record.specs.World.{Bytes, Sized}
 use Rattle.record.proofs.PeriodLaws.{period-least}
 use Rattle.record.proofs.StageLaws.{reading-code}
+use Rattle.record.proofs.WorldLaws.{replicate-bytes}
 use Rattle.refusals.specs.InRange.{PlaceRange, CycleRange, InRange}
 use Rattle.refusals.proofs.KeepLaws.{watchdog-in}
 use Rattle.ends.specs.Write.{isWrite, carried, writingTarget, secondTarget, targetAt, cycleAfter}
@@ -117,4 +118,6 @@ end-sized top k d z =
       sram = pick-case (λ (m : List ℕ). length m ≡ 64) (clears Clrram k (d .frame .stage)) (length-replicate {A = ℕ} 64 0) (z .sram);
       bytes = z .bytes;
       offsets = z .offsets;
+      sramBytes = pick-case Bytes (clears Clrram k (d .frame .stage)) (replicate-bytes 64 0 (omega arith)) (z .sramBytes);
+      loadBytes = z .loadBytes;
     }

@@ -1,4 +1,4 @@
--- What select and a byte keep: a record in range, the lengths of its lists, the loaded offsets a byte; and the bit of each offset.
+-- What select and a byte keep: a record in range, the lengths of its lists, the loaded offsets and every byte a byte; and the bit of each offset.
 -- Not what a frame answers.
 -- Assumes nothing.
 use Prim.Native.Nat.{ℕ, _+_, _*_, _^_, _<_}
@@ -9,7 +9,7 @@ use mathlib.Core.List.{List, [], _∷_}
 use borrow.Author.Tests.{ltb-true, lt-ltb}
 use lib.Bits.{and-le-r, or-lt}
 use lib.Dec.{ltb}
-use lib.ListN.{length, getD, length-set}
+use lib.ListN.{length, getD, set, length-set}
 use Rattle.base.specs.Words.{every, flag}
 use Rattle.base.proofs.Tests.{pick-case, pick-when, true-false, flag-below}
 use Rattle.base.proofs.Every.{same-below, bound-below}
@@ -33,13 +33,14 @@ use Rattle.record.specs.Numbers.{protectionNumber}
 use Rattle.record.specs.Part.{topOf, sizeOf, bootsOf}
 use Rattle.record.specs.Setters.{withStage, withLoad}
 use Rattle.record.specs.Stages.{selected, heard, readingCode, writingCode, secondCode, overCode, codeAt, foreignToWip, framePlace}
-use Rattle.record.specs.World.{Sized}
+use Rattle.record.specs.World.{Bytes, Sized}
 use Rattle.record.proofs.NumberLaws.{protection-below}
 use Rattle.record.proofs.StageLaws.{heard-selected}
+use Rattle.record.proofs.WorldLaws.{sized-by, set-bytes}
 use Rattle.refusals.specs.InRange.{PlaceRange, InRange}
 use Rattle.refusals.proofs.KeepLaws.{Beside, beside}
 use Rattle.registers.specs.Write.{writeClock}
-use Rattle.registers.proofs.WriteLaws.{write-beside, write-lengths, write-in-range}
+use Rattle.registers.proofs.WriteLaws.{write-beside, write-regs-length, write-sram, write-in-range}
 use Rattle.ticks.specs.Lines.{wip}
 use Rattle.frames.specs.Frame.{secondStage, readOn, writtenOn, thirdByte, stageAfter, emptied, loadedWith, writingLoad, loadAfter, writtenPlace, writtenAt, afterByte, afterSelect}
 
@@ -92,6 +93,12 @@ module _ (P : Device → Type 0) (boots : Bool) (d : Device) (v : ℕ) (p : P d)
   written-case (Writing x) = place-case x
   written-case (Second x) = p
   written-case (Over x) = p
+
+-- what holds of the SRAM, and of it with the byte stored, holds of the SRAM after a byte
+sram-case :
+    (P : List ℕ → Type 0) (boots : Bool) (d : Device) (v : ℕ) → P (d .sram) → ((k : ℕ) → P (set (d .sram) k v))
+    → (s : Stage) → P (writtenAt boots d v s .sram)
+sram-case P boots d v p q = written-case (λ (e : Device). P (e .sram)) boots d v p (λ a. write-sram P boots d a v p q)
 
 -- a byte leaves alone what is no register, SRAM, count, stage or load
 pub written-beside : (boots : Bool) (d : Device) (v : ℕ) (s : Stage) → Beside d (writtenAt boots d v s)
@@ -255,21 +262,24 @@ byte-in-range part v d on r =
     let q : 0 < d .cycle .left = rw (b .cycle) at h in
     subst (λ (t : Bool). foreignToWip (stageAfter top t v s) ≡ false) (sym (lt-ltb 0 (d .cycle .left) q)) (stage-foreign top v s (r .power .heard q)))
 
--- Lengths.
+-- Lengths and bytes: a byte that is stored is one.
 pub select-sized : (d : Device) → Sized d → Sized (afterSelect d)
 unfolding afterSelect
-select-sized d z = record { regs = z .regs; sram = z .sram; bytes = z .bytes; offsets = z .offsets }
+select-sized d = sized-by d (withStage d Opened) refl refl refl
 
-pub byte-sized : (boots : Bool) (top v : ℕ) (d : Device) → Sized d → Sized (afterByte boots top v d)
+pub byte-sized : (boots : Bool) (top v : ℕ) (d : Device) → v < 256 → Sized d → Sized (afterByte boots top v d)
 unfolding afterByte
-byte-sized boots top v d z =
+byte-sized boots top v d h z =
     let s : Stage = d .frame .stage in
     let l : Load = d .load in
+    let o : ℕ = offsetOf (l .next) in
     record {
-      regs = written-case (λ (e : Device). length (e .regs) ≡ 32) boots d v (z .regs) (λ a. write-lengths boots d a v .0 ∙ z .regs) s;
-      sram = written-case (λ (e : Device). length (e .sram) ≡ 64) boots d v (z .sram) (λ a. write-lengths boots d a v .1 ∙ z .sram) s;
-      bytes = load-case (λ (m : Load). length (m .bytes) ≡ 8) l v (z .bytes) (z .bytes) (length-set (l .bytes) (offsetOf (l .next)) v ∙ z .bytes) s;
+      regs = written-case (λ (e : Device). length (e .regs) ≡ 32) boots d v (z .regs) (λ a. write-regs-length boots d a v ∙ z .regs) s;
+      sram = sram-case (λ (m : List ℕ). length m ≡ 64) boots d v (z .sram) (λ k. length-set (d .sram) k v ∙ z .sram) s;
+      bytes = load-case (λ (m : Load). length (m .bytes) ≡ 8) l v (z .bytes) (z .bytes) (length-set (l .bytes) o v ∙ z .bytes) s;
       offsets =
           load-case (λ (m : Load). m .offsets < 256) l v (z .offsets) (omega arith)
-          (or-lt 8 (l .offsets) (2 ^ offsetOf (l .next)) (z .offsets) (offset-below (offsetOf (l .next)) (omega arith))) s;
+          (or-lt 8 (l .offsets) (2 ^ o) (z .offsets) (offset-below o (omega arith))) s;
+      sramBytes = sram-case Bytes boots d v (z .sramBytes) (λ k. set-bytes (d .sram) k v h (z .sramBytes)) s;
+      loadBytes = load-case (λ (m : Load). Bytes (m .bytes)) l v (z .loadBytes) (z .loadBytes) (set-bytes (l .bytes) o v h (z .loadBytes)) s;
     }

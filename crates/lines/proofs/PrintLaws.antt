@@ -1,4 +1,4 @@
--- Laws of the printer: a word and what it shows, put one after the other, and the place after them.
+-- Laws of the printer: a word and what it shows, put one after the other, and the place after them; how long an answer's line is.
 -- Assumes nothing.
 use mathlib.Core.Path.{_≡_, sym, ap, _∙_}
 use mathlib.Core.Bool.{Bool}
@@ -11,7 +11,7 @@ use Rattle.base.proofs.Tests.{flag-below}
 use Rattle.text.specs.Buffer.{Buffer, append}
 use Rattle.text.specs.Decimal.{decimalText}
 use Rattle.lines.specs.declared.Out.{Out}
-use Rattle.lines.specs.Print.{outText, levelOut, outRoom}
+use Rattle.lines.specs.Print.{outText, levelOut, answerLine, outRoom, answerRoom}
 use Rattle.text.proofs.BufferLaws.{put-place, put-then}
 use Rattle.text.proofs.DecimalLaws.{decimal-places}
 
@@ -38,3 +38,17 @@ pub level-room :
 level-room m o word high e f l r =
     let b : flag high < 10 = omega (arith, flag-below high) in
     number-room 0 (flag high) m o word b (f ∙ ap (λ (y : Out). append o (word ++ outText y)) e) l r
+
+-- how long five texts are together, and a level
+five-length : (a b c d e : List ℕ) → length (a ++ b ++ c ++ d ++ e) ≡ length a + length b + length c + length d + length e
+five-length a b c d e =
+    omega (arith, length-append (a ++ b ++ c ++ d) e, length-append (a ++ b ++ c) d, length-append (a ++ b) c, length-append a b)
+
+level-most : (high : Bool) → length (outText (levelOut high)) ≤ 1
+level-most high = decimal-places 0 (flag high) (omega (arith, flag-below high))
+
+-- an answer's line has room, where its number has one digit and what it shows no more bytes than a number of 64 bits
+pub answer-most :
+    (number : ℕ) (out : Out) (irq wdo : Bool) → number < 10 → length (outText out) ≤ outRoom → length (answerLine number out irq wdo) ≤ answerRoom
+unfolding answerLine
+answer-most number out irq wdo n o = rw (answerLine, five-length) (omega (arith, decimal-places 0 number n, level-most irq, level-most wdo))

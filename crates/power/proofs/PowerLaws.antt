@@ -1,37 +1,39 @@
--- How many bytes a power cut stores, and what a cut and power up keep: a record in range, and the lengths of its lists and memories.
+-- How many bytes a power cut stores, and what a cut and power up keep: a record in range, the lengths of its lists and memories, and bytes.
 -- Assumes nothing.
 use Prim.Native.Nat.{ℕ, _+_, _%_, _<_, _≤_}
 use native.Mathlib.Omega.{arith}
-use mathlib.Core.Path.{_≡_, refl, sym, _∙_}
-use mathlib.Core.Bool.{Bool, false, true≢false}
+use mathlib.Core.Path.{_≡_, refl, sym}
+use mathlib.Core.Bool.{Bool, true, false, true≢false}
 use mathlib.Core.List.{List}
 use lib.Bits.{bitAnd, and-le-r}
 use lib.Count.{ones, ones-le}
 use lib.Dec.{eqb}
-use lib.ListN.{length, getD, set, length-set, length-replicate}
+use lib.ListN.{length, getD, set, length-set}
 use mir.Val.{Fits}
 use mir.Syntax.{w8}
 use Rattle.base.specs.Words.{every, bit, flag, members, changes}
-use Rattle.base.proofs.Tests.{pick-case}
+use Rattle.base.proofs.Tests.{pick-case, flag-below}
 use Rattle.base.proofs.Every.{same-below}
-use Rattle.base.proofs.BitLaws.{count-ones, below-mask}
+use Rattle.base.proofs.BitLaws.{count-ones, members-most, below-mask}
 use Rattle.base.proofs.StoreLaws.{set-case, store-changes}
 use Rattle.record.specs.declared.Device.{Device}
 use Rattle.record.specs.declared.EepromAddress.{EepromAddress}
 use Rattle.record.specs.declared.IdAddress.{IdAddress}
-use Rattle.record.specs.declared.Target.the-variants.{Eeprom, Id}
+use Rattle.record.specs.declared.Load.{Load}
+use Rattle.record.specs.declared.Target.{Target}
+use Rattle.record.specs.declared.Target.the-variants.{Eeprom, Id, Status}
 use Rattle.record.specs.Address.{pageOf}
 use Rattle.record.specs.Fresh.{fresh}
 use Rattle.record.specs.Part.{bootsOf}
 use Rattle.record.specs.Registers.{vbaten, secondsAt, watchdogAt}
-use Rattle.record.specs.Setters.{withWatchdog, withDelay, withPulse}
-use Rattle.record.specs.Stored.{storedSet}
-use Rattle.record.specs.World.{World, Sized}
+use Rattle.record.specs.Setters.{withWatchdog, withDelay, withPulse, withPower}
+use Rattle.record.specs.Stored.{storedSet, storedCount, storePage}
+use Rattle.record.specs.World.{World, Bytes, Sized}
 use Rattle.record.proofs.PeriodLaws.{period-least}
+use Rattle.record.proofs.WorldLaws.{sized-by, replicate-bytes, eeprom-case, id-case}
 use Rattle.refusals.specs.InRange.{InRange}
 use Rattle.refusals.proofs.RangeLaws.{fresh-facts}
 use Rattle.refusals.proofs.KeepLaws.{ClockOf, Beside, beside, watchdog-in, delay-in, pulse-in, regs-in, set-inside, in-range-beside}
-use Rattle.ticks.proofs.WaitLaws.{eeprom-after-length, id-after-length}
 use Rattle.power.specs.Power.{watchdogCut, forgotten, stoppedBy, afterCut, cutCount, cutWorld, afterUp}
 
 -- The ones of the loaded offsets under a mask are the offsets that are stored.
@@ -89,23 +91,41 @@ cut-in-range part mask d r =
 pub cut-sized : (mask : ℕ) (d : Device) → Sized d → Sized (afterCut mask d)
 cut-sized mask d z =
     cut-case Sized mask d
-    (record { regs = length-set (d .regs) watchdogAt _ ∙ z .regs; sram = z .sram; bytes = z .bytes; offsets = z .offsets })
-    (record { regs = refl; sram = length-replicate {A = ℕ} 64 0; bytes = z .bytes; offsets = z .offsets })
+    (sized-by d (watchdogCut (stoppedBy mask d)) (length-set (d .regs) watchdogAt _) refl refl z)
+    (record {
+      regs = refl;
+      sram = refl;
+      bytes = z .bytes;
+      offsets = z .offsets;
+      sramBytes = replicate-bytes 64 0 (omega arith);
+      loadBytes = z .loadBytes;
+    })
 
--- a cut keeps the lengths of both memories
+-- the record of a cut, and what holds of both memories after it: what held, and holds where any page is stored
 pub cut-device : (mask : ℕ) (w : World) → cutWorld mask w .device ≡ afterCut mask (w .device)
 unfolding cutWorld
 cut-device mask w = refl
 
-pub cut-lengths :
-    (mask : ℕ) (w : World) → (length (cutWorld mask w .eeprom) ≡ length (w .eeprom)) × (length (cutWorld mask w .id) ≡ length (w .id))
+pub cut-memories :
+    (P Q : List ℕ → Type 0) (mask : ℕ) (w : World) → P (w .eeprom) → ((a : ℕ) → P (storePage (w .device .load) mask a (w .eeprom)))
+    → Q (w .id) → ((a : ℕ) → Q (storePage (w .device .load) mask a (w .id))) → P (cutWorld mask w .eeprom) × Q (cutWorld mask w .id)
 unfolding cutWorld
-cut-lengths mask w = (
-  pick-case (λ (m : List ℕ). length m ≡ length (w .eeprom)) (eqb (w .device .cycle .left) 0) refl
-      (eeprom-after-length (w .device .load) mask (w .eeprom) (w .device .cycle .target)),
-  pick-case (λ (m : List ℕ). length m ≡ length (w .id)) (eqb (w .device .cycle .left) 0) refl
-      (id-after-length (w .device .load) mask (w .id) (w .device .cycle .target)),
-)
+cut-memories P Q mask w e es i is =
+    let d : Device = w .device in
+    let none : Bool = eqb (d .cycle .left) 0 in (
+      pick-case P none e (eeprom-case P (d .load) mask (w .eeprom) e es (d .cycle .target)),
+      pick-case Q none i (id-case Q (d .load) mask (w .id) i is (d .cycle .target)),
+    )
+
+-- The count of a cut is at most 8.
+stored-most : (l : Load) (mask : ℕ) (t : Target) → storedCount l mask t ≤ 8
+stored-most l mask (Eeprom a) = members-most (storedSet l mask) 8
+stored-most l mask (Id a) = members-most (storedSet l mask) 8
+stored-most l mask (Status p) = omega (arith, flag-below (bit mask 0))
+
+pub cut-most : (mask : ℕ) (d : Device) → cutCount mask d ≤ 8
+unfolding cutCount
+cut-most mask d = pick-case (λ (n : ℕ). n ≤ 8) (eqb (d .cycle .left) 0) (omega arith) (stored-most (d .load) mask (d .cycle .target))
 
 -- W9. The count that a cut answers is the number of bytes that it changed, where every loaded byte is another than the one at its place.
 module _ (mask : ℕ) (w : World) (runs : eqb (w .device .cycle .left) 0 ≡ false) where
@@ -136,4 +156,4 @@ up-in-range part d r =
 
 pub up-sized : (d : Device) → Sized d → Sized (afterUp d)
 unfolding afterUp
-up-sized d z = record { regs = z .regs; sram = z .sram; bytes = z .bytes; offsets = z .offsets }
+up-sized d = sized-by d (withPower d true) refl refl refl

@@ -3,3 +3,4 @@ pub mod NumberLaws
 pub mod PartLaws
 pub mod StageLaws
 pub mod PeriodLaws
+pub mod WorldLaws

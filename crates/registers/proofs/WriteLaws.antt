@@ -1,6 +1,6 @@
--- Laws of WRITE to the clock block: what it leaves alone, the lengths of registers and SRAM, and that it keeps a record in range.
+-- Laws of WRITE to the clock block: what it leaves alone, the number of registers, what it leaves of the SRAM, and that it keeps a record in range.
 -- Assumes nothing.
-use mathlib.Core.Path.{_≡_, refl, sym, _∙_}
+use mathlib.Core.Path.{_≡_, refl, sym, ap, subst, _∙_}
 use mathlib.Core.Bool.{Bool, false, not, _&&_}
 use mathlib.Core.List.{List}
 use mathlib.Core.Logic.{_≢_}
@@ -45,25 +45,28 @@ write-beside boots d a v =
     (pick-case (Beside d) (eqb (a .0) watchdogAt) (beside d) (beside d)))
     (λ k. beside d) (beside d)
 
--- and the lengths
-after-lengths :
-    (boots : Bool) (a : ℕ) (d : Device)
-    → (length (afterWrite boots a d .regs) ≡ length (d .regs)) × (length (afterWrite boots a d .sram) ≡ length (d .sram))
+-- what follows from a write changes no register and no SRAM byte
+after-same : (boots : Bool) (a : ℕ) (d : Device) → (afterWrite boots a d .regs ≡ d .regs) × (afterWrite boots a d .sram ≡ d .sram)
 unfolding afterWrite
-after-lengths boots a d =
-    let P : Device → Type 0 = λ e. (length (e .regs) ≡ length (d .regs)) × (length (e .sram) ≡ length (d .sram)) in
+after-same boots a d =
+    let P : Device → Type 0 = λ e. (e .regs ≡ d .regs) × (e .sram ≡ d .sram) in
     pick-case P (eqb a secondsAt) (pick-case P (not boots && not (st (d .regs))) (refl, refl) (refl, refl))
     (pick-case P (eqb a watchdogAt) (refl, refl) (refl, refl))
 
-pub write-lengths :
-    (boots : Bool) (d : Device) (a : ClockAddress) (v : ℕ)
-    → (length (writeClock boots d a v .regs) ≡ length (d .regs)) × (length (writeClock boots d a v .sram) ≡ length (d .sram))
-write-lengths boots d a v =
-    write-case (λ (e : Device). (length (e .regs) ≡ length (d .regs)) × (length (e .sram) ≡ length (d .sram))) boots d a v
-    (λ s h e.
-    let l = after-lengths boots (a .0) (withRegs d (set (d .regs) (a .0) s)) in
-    (l .0 ∙ length-set (d .regs) (a .0) s, l .1))
-    (λ k. (refl, length-set (d .sram) k v)) (refl, refl)
+-- so that there are as many registers,
+pub write-regs-length : (boots : Bool) (d : Device) (a : ClockAddress) (v : ℕ) → length (writeClock boots d a v .regs) ≡ length (d .regs)
+write-regs-length boots d a v =
+    write-case (λ (e : Device). length (e .regs) ≡ length (d .regs)) boots d a v
+    (λ s h e. ap length (after-same boots (a .0) (withRegs d (set (d .regs) (a .0) s)) .0) ∙ length-set (d .regs) (a .0) s)
+    (λ k. refl) refl
+
+-- and what holds of the SRAM, and of it with the byte stored, holds of the SRAM after WRITE
+pub write-sram :
+    (P : List ℕ → Type 0) (boots : Bool) (d : Device) (a : ClockAddress) (v : ℕ) → P (d .sram) → ((k : ℕ) → P (set (d .sram) k v))
+    → P (writeClock boots d a v .sram)
+write-sram P boots d a v p q =
+    write-case (λ (e : Device). P (e .sram)) boots d a v
+    (λ s h e. subst P (sym (after-same boots (a .0) (withRegs d (set (d .regs) (a .0) s)) .1)) p) q p
 
 -- what WRITE stores is inside its mask: the writable bits are among those that a register may hold
 pub written-inside : (a v : ℕ) → a < 32 → Inside a (bitAnd v (getD writable a 0))

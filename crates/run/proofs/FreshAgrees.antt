@@ -4,28 +4,12 @@ use Prim.Native.Nat.{ℕ}
 use mathlib.Core.Path.{refl}
 use mathlib.Core.Bool.{false≢true}
 use native.Mathlib.Omega.{arith}
-use lib.ListN.{length-replicate}
 use Rattle.record.specs.Fresh.{fresh}
-use Rattle.record.specs.Part.{sizeOf, idSize}
 use Rattle.record.specs.World.{freshWorld}
-use Rattle.refusals.proofs.RangeLaws.{fresh-facts}
-use Rattle.acts.proofs.ValidLaws.{Valid}
+use Rattle.acts.proofs.ValidLaws.{fresh-valid}
 use Rattle.ledger.specs.State.{start, noByte, noCycle}
 use Rattle.ledger.specs.Bytes.{byteOf}
 use Rattle.run.proofs.Agree.{Agree}
-
-pub fresh-valid : (part : ℕ) → Valid part (freshWorld part)
-unfolding fresh
-fresh-valid part =
-    record {
-      range = fresh-facts part;
-      shaped =
-          record {
-            sized = record { regs = refl; sram = refl; bytes = refl; offsets = omega arith };
-            eeprom = length-replicate {A = ℕ} (sizeOf part) 255;
-            id = length-replicate {A = ℕ} idSize 255;
-          };
-    }
 
 pub fresh-agrees : (part : ℕ) → Agree (freshWorld part) part (freshWorld part) start
 unfolding fresh start noByte noCycle byteOf

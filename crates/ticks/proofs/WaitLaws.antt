@@ -1,7 +1,7 @@
 -- Laws of a wait of the chip: what it does to a write cycle and the memories, that the record's wait and one store of a page serve, and that it
--- keeps every length. Where it stops, and how it splits, are the laws of any wait (base).
+-- keeps the number of registers. Where it stops, and how it splits, are the laws of any wait (base).
 -- Assumes nothing.
-use mathlib.Core.Path.{_≡_, refl, sym, ap, _∙_}
+use mathlib.Core.Path.{_≡_, refl, sym, ap, subst, _∙_}
 use mathlib.Core.Bool.{Bool, true, false, not, _&&_, and-false}
 use mathlib.Core.List.{List}
 use mathlib.Core.Logic.{_⊎_, inl, inr, ⊎-elim, _≢_}
@@ -13,15 +13,12 @@ use lib.Dec.{ltb, leb, eqb}
 use lib.ListN.{length}
 use Rattle.base.specs.Words.{pick}
 use Rattle.base.specs.Wait.{Waited, plus}
-use Rattle.base.proofs.Tests.{by-cases, no, neither-left, both-true, true-false}
-use Rattle.base.proofs.StoreLaws.{store-length}
+use Rattle.base.proofs.Tests.{by-cases, no, pick-case, neither-left, both-true, true-false}
 use Rattle.base.proofs.WaitLaws.{wait-none, wait-go, wait-each, wait-map}
 use Rattle.record.specs.declared.Device.{Device}
-use Rattle.record.specs.declared.Load.{Load}
-use Rattle.record.specs.declared.Target.{Target}
-use Rattle.record.specs.declared.Target.the-variants.{Eeprom, Id, Status}
 use Rattle.record.specs.World.{World}
-use Rattle.record.specs.Stored.{wholeMask, eepromAfter, idAfter, protectionAfter}
+use Rattle.record.specs.Stored.{wholeMask, storePage, eepromAfter, idAfter, protectionAfter}
+use Rattle.record.proofs.WorldLaws.{eeprom-case, id-case}
 use Rattle.refusals.specs.InRange.{InRange}
 use Rattle.ticks.specs.Lines.{wip, changed}
 use Rattle.ticks.specs.Tick.{alive, tick, lineChanged, waited}
@@ -148,6 +145,20 @@ wait-spent part boots n w r =
     (λ a. wait-alive boots n w a)
     (λ a. rw (wait-dead boots n w a) (spent-still w n (inr (r .power .still (neither-left (w .device .power) _ a)))))
 
+-- what holds of both memories after a wait: what held, and holds where any page is stored
+pub wait-memories :
+    (P Q : List ℕ → Type 0) (part : ℕ) (boots : Bool) (n : ℕ) (w : World) → InRange part (w .device)
+    → P (w .eeprom) → ((a : ℕ) → P (storePage (w .device .load) wholeMask a (w .eeprom)))
+    → Q (w .id) → ((a : ℕ) → Q (storePage (w .device .load) wholeMask a (w .id)))
+    → P (waited boots n w .after .eeprom) × Q (waited boots n w .after .id)
+wait-memories P Q part boots n w r e es i is =
+    let d : Device = w .device in
+    let s = wait-spent part boots n w r in
+    let over : Bool = ended d (waited boots n w .after .device) in (
+      subst P (sym (s .eeprom)) (pick-case P over (eeprom-case P (d .load) wholeMask (w .eeprom) e es (d .cycle .target)) e),
+      subst Q (sym (s .id)) (pick-case Q over (id-case Q (d .load) wholeMask (w .id) i is (d .cycle .target)) i),
+    )
+
 -- The record and the ticks used of a wait need no memory: a wait of any world is its record's wait, and one store of a page.
 pub wait-device :
     (boots : Bool) (n : ℕ) (w : World)
@@ -194,17 +205,7 @@ ended-left d e = ap (λ (b : Bool). not b && eqb (e .cycle .left) 0) (zero-test 
     twice true = refl
     twice false = refl
 
--- Lengths.
-pub eeprom-after-length : (l : Load) (mask : ℕ) (ee : List ℕ) (t : Target) → length (eepromAfter l mask ee t) ≡ length ee
-eeprom-after-length l mask ee (Eeprom a) = store-length ee _ _ _ 8
-eeprom-after-length l mask ee (Id a) = refl
-eeprom-after-length l mask ee (Status p) = refl
-
-pub id-after-length : (l : Load) (mask : ℕ) (id : List ℕ) (t : Target) → length (idAfter l mask id t) ≡ length id
-id-after-length l mask id (Eeprom a) = refl
-id-after-length l mask id (Id a) = store-length id _ _ _ 8
-id-after-length l mask id (Status p) = refl
-
+-- There are as many registers after a wait.
 pub wait-regs-length : (boots : Bool) (n : ℕ) (d : Device) → length (deviceWaited boots n d .after .regs) ≡ length (d .regs)
 wait-regs-length boots =
     wait-each (deviceTick boots) changed (λ n d r. length (r .after .regs) ≡ length (d .regs))
