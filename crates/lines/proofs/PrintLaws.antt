@@ -11,7 +11,7 @@ use Rattle.base.proofs.Tests.{flag-below}
 use Rattle.text.specs.Buffer.{Buffer, append}
 use Rattle.text.specs.Decimal.{decimalText}
 use Rattle.lines.specs.declared.Out.{Out}
-use Rattle.lines.specs.Print.{outText, levelOut, answerLine, outRoom, answerRoom}
+use Rattle.lines.specs.Print.{outText, levelOut, fieldsText, answerChars, answerLine, outRoom, answerRoom}
 use Rattle.text.proofs.BufferLaws.{put-place, put-then}
 use Rattle.text.proofs.DecimalLaws.{decimal-places}
 
@@ -50,5 +50,5 @@ level-most high = decimal-places 0 (flag high) (omega (arith, flag-below high))
 -- an answer's line has room, where its number has one digit and what it shows no more bytes than a number of 64 bits
 pub answer-most :
     (number : ℕ) (out : Out) (irq wdo : Bool) → number < 10 → length (outText out) ≤ outRoom → length (answerLine number out irq wdo) ≤ answerRoom
-unfolding answerLine
+unfolding answerLine answerChars fieldsText
 answer-most number out irq wdo n o = rw (answerLine, five-length) (omega (arith, decimal-places 0 number n, level-most irq, level-most wdo))

@@ -2,4 +2,5 @@ pub mod TapeLaws
 pub mod WholeLaws
 pub mod ToldLaws
 pub mod LedgerLaws
+pub mod FeedLaws
 pub mod WholeCaseLaws

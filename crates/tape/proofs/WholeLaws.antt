@@ -37,7 +37,7 @@ last-fed s (c ∷ b) =
     ∙ ap (fedTo (state (lineAnswer (c ∷ b) s .after) [])) (sym (append-nil (answerText (lineAnswer (c ∷ b) s))))
 
 -- a tape to its end
-abbrev toEnd : Fed → Fed
+abbrev pub toEnd : Fed → Fed
 toEnd f = ahead (f .answers) (finished (f .after))
 
 -- what holds of both answers of two choices by one test

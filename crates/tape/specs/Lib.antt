@@ -1,4 +1,5 @@
 pub mod Tape
 pub mod Told
 pub mod Steps
+pub mod Feeding
 pub mod WholeCase

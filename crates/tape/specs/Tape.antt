@@ -153,6 +153,10 @@ buffersFit begun line ee id = leb begun headLimit && eqb line headLimit && eqb e
 unfoldable pub isTape : Loan → Bool
 isTape l = buffersFit (l .tape .begun) (length (l .line)) (length (l .eeprom)) (length (l .id)) && ready (l .tape .part) (l .tape .device)
 
+-- the code's tape before its first byte
+abbrev pub startTape : Tape
+startTape = record { part = 0; device = fresh; begun = 0 }
+
 -- what a call gives: all that is lent after it, the output, and how many bytes of the chunk were taken
 pub record Given : Type 0 where
   pub after : Loan

@@ -13,11 +13,10 @@ ghost use mathlib.Core.List.{_++_};
 ghost use Prim.Native.Nat.{_+_, _≤_};
 ghost use lib.ListN.{length, take};
 ghost use Rattle.base.specs.Words.{over};
-ghost use Rattle.record.specs.Fresh.{fresh};
 ghost use Rattle.text.specs.Buffer.{buffer};
 ghost use Rattle.lines.specs.Print.{answerRoom};
 ghost use Rattle.answers.specs.Answer.{lineAnswer, Lent, ready, setupIn, heldBy, shownIn, shownBy};
-ghost use Rattle.tape.specs.Tape.{head, Headed, finished, putInto, takenFrom, loan, stateIn, buffersFit, isTape, gives, feedInto, finishInto, givenBy};
+ghost use Rattle.tape.specs.Tape.{head, Headed, finished, putInto, takenFrom, loan, stateIn, buffersFit, isTape, gives, feedInto, finishInto, givenBy, startTape};
 
 // T3. The head of a line: one character more than it may have tells that it is too long.
 pub const HEAD_LIMIT: usize = lines::line::LINE_LIMIT + 1;
@@ -29,7 +28,7 @@ pub const ID_SIZE: usize = record::part::ID_SIZE as usize;
 
 // A tape before its first line.
 pub fn start() -> Tape
-    ensures { λ r. ⌜ r ≡ record { part = 0; device = fresh; begun = 0 } ⌝ }
+    ensures { λ r. ⌜ r ≡ startTape ⌝ }
 {
     Tape {
         part: 0,

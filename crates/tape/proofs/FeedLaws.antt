@@ -1,0 +1,266 @@
+-- Every way to feed a tape, proved: a state that a tape comes to stays fine, so that its answers have room and can be laid into what is lent and read
+-- from it again; one call feeds what it takes; and calls, one after another, feed the tape.
+-- Assumes nothing.
+use mathlib.Core.Path.{_≡_, refl, sym, ap, subst, _∙_}
+use mathlib.Core.Bool.{false, _&&_, true≢false}
+use mathlib.Core.List.{List, [], _∷_, _++_, append-nil, append-assoc}
+use Prim.Native.Nat.{ℕ, zero, suc, _+_, _-_, _<_, _≤_}
+use native.Mathlib.Omega.{arith}
+use borrow.Author.Tests.{le-leb, ltb-false}
+use lib.Dec.{ltb, leb, eqb}
+use lib.ListN.{length, take, drop, length-append, length-take, length-drop, take-append-drop}
+use lib.Seq.{take-at, drop-at, take-take, length-take-le, sets-eq}
+use Rattle.base.specs.Words.{pick, over}
+use Rattle.base.proofs.OverLaws.{take-over, length-over}
+use Rattle.base.proofs.Tests.{by-cases, yes, no, pick-case, pick-when, both-true}
+use Rattle.record.specs.Part.{idSize}
+use Rattle.record.proofs.PartLaws.{size-most}
+use Rattle.text.specs.Bytes.{newline}
+use Rattle.text.specs.Buffer.{Buffer, buffer, append, roomIn}
+use Rattle.lines.specs.Print.{answerRoom}
+use Rattle.answers.specs.Answer.{Setup, lineAnswer, eepromRoom, eepromBytes, idBytes, setupIn}
+use Rattle.answers.proofs.HeldLaws.{Sound, line-sound, held-setup}
+use Rattle.answers.proofs.BoundLaws.{SetupValid, answer-valid, answer-room}
+use Rattle.tape.specs.Tape.{State, state, head, headLimit, Fed, fedTo, ended, fedByte, ahead, fed, finished, ChunksJoin, FedByLines, takenWithin, putInto, takenFrom, Loan, loan, heldIn, stateIn, lending, Given, gives, feedInto, finishInto, tapeAnswers, emptySetup}
+use Rattle.tape.specs.declared.Tape.{Tape}
+use Rattle.tape.specs.Steps.{AccountsFor, toldBy, leftAfter, BytesAccounted}
+use Rattle.tape.specs.Feeding.{Offer, wrote, Course, courseOf, lastCall, printed, GetsOn, AllGetOn, Begins, FeedsWell, AnyFeeding}
+use Rattle.tape.proofs.TapeLaws.{fed-join, ahead-join, TapeFacts, tape-facts, facts-tape, tape-sound}
+use Rattle.tape.proofs.WholeLaws.{toEnd, tape-whole, taken-within, taken-some}
+use Rattle.tape.proofs.LedgerLaws.{bytes-accounted}
+
+-- a state that a tape comes to: its setup is sound and its chip valid, and no more is kept of a line than tells that it is too long
+pub record Fine (s : State) : Type 0 where
+  pub sound : Sound (s .setup)
+  pub valid : SetupValid (s .setup)
+  pub short : length (s .begun) ≤ headLimit
+
+byte-fine : (b : ℕ) (s : State) → Fine s → Fine (fedByte b s .after)
+byte-fine b s f =
+    pick-case (λ (g : Fed). Fine (g .after)) (eqb b newline)
+    (record { sound = line-sound (s .begun) (s .setup) (f .sound); valid = answer-valid (s .begun) (s .setup) (f .valid); short = omega arith })
+    (record { sound = f .sound; valid = f .valid; short = simp length-take (omega arith) })
+
+fed-fine : (bytes : List ℕ) (s : State) → Fine s → Fine (fed s bytes .after)
+unfolding fed
+fed-fine [] s f = f
+fed-fine (b ∷ bytes) s f = fed-fine bytes (fedByte b s .after) (byte-fine b s f)
+
+finished-fine : (s : State) → Fine s → Fine (finished s .after)
+unfolding finished
+finished-fine s f =
+    pick-case (λ (g : Fed). Fine (g .after)) (eqb (length (s .begun)) 0) f
+    (record { sound = line-sound (s .begun) (s .setup) (f .sound); valid = answer-valid (s .begun) (s .setup) (f .valid); short = omega arith })
+
+-- The answers to what is taken have room.
+byte-room : (b room : ℕ) (s : State) → Fine s → (eqb b newline && ltb room answerRoom) ≡ false → length (fedByte b s .answers) ≤ room
+byte-room b room s f e =
+    pick-when (λ (g : Fed). length (g .answers) ≤ room) (eqb b newline)
+    (λ t. omega (arith, answer-room (s .begun) (s .setup) (f .valid), ltb-false room answerRoom (rw t at e)))
+    (λ t. omega arith)
+
+taken-room :
+    (bytes : List ℕ) (room : ℕ) (s : State) → Fine s → length (fed s (take (takenWithin room s bytes) bytes) .answers) ≤ room
+unfolding takenWithin fed
+taken-room [] room s f = omega arith
+taken-room (b ∷ bytes) room s f =
+    let a = fedByte b s .answers in
+    let t = fedByte b s .after in
+    let k = takenWithin (room - length a) t bytes in
+    pick-when (λ (n : ℕ). length (fed s (take n (b ∷ bytes)) .answers) ≤ room) (eqb b newline && ltb room answerRoom)
+    (λ e. omega arith)
+    (λ e.
+    let h : length a ≤ room = byte-room b room s f e in
+    let i = taken-room bytes (room - length a) t (byte-fine b s f) in
+    omega (arith, length-append a (fed t (take k bytes) .answers)))
+
+finished-room : (s : State) → Fine s → length (finished s .answers) ≤ answerRoom
+unfolding finished
+finished-room s f =
+    pick-case (λ (g : Fed). length (g .answers) ≤ answerRoom) (eqb (length (s .begun)) 0) (omega arith)
+    (answer-room (s .begun) (s .setup) (f .valid))
+
+-- so what a call wrote are they
+wrote-text : (o : Buffer) (text : List ℕ) → length text ≤ roomIn o → wrote o (append o text) ≡ text
+unfolding append
+wrote-text o [] h =
+    let n : o .at + 0 - o .at ≡ 0 = omega arith in
+    ap (λ (k : ℕ). take k (drop (o .at) (append o [] .bytes))) n
+wrote-text o (b ∷ bs) h =
+    let m = o .bytes in
+    let k = o .at in
+    let text = b ∷ bs in
+    let rest = drop (k + length text) m in
+    let q : drop k (append o text .bytes) ≡ text ++ rest =
+    ap (drop k) (sets-eq text m k (omega arith) ∙ append-assoc (take k m) text rest)
+    ∙ drop-at (take k m) (text ++ rest) k (length-take-le k m (omega arith)) in
+    ap (take (k + length text - k)) q ∙ take-at text rest (k + length text - k) (omega arith)
+
+-- A fine state that is laid into what is lent to a tape can be read again, and it is a tape again.
+laid-state : (l : Loan) (s : State) → Fine s → stateIn (lending l s) ≡ s
+laid-state l s f =
+    λ i. state (held-setup (heldIn l) (s .setup) (f .sound) i) (take-over (s .begun) (l .line) (length (s .begun)) refl i)
+
+laid-facts : (l : Loan) (s : State) → TapeFacts l → Fine s → TapeFacts (lending l s)
+laid-facts l s t f =
+    let p = s .setup .part in
+    let e : eepromBytes p ≤ eepromRoom = pick-case (λ (n : ℕ). n ≤ eepromRoom) (eqb p 0) (omega arith) (size-most p) in
+    let i : idBytes p ≤ idSize = pick-case (λ (n : ℕ). n ≤ idSize) (eqb p 0) (omega arith) (omega arith) in
+    record {
+      headed =
+          record {
+            size = length-over (s .begun) (l .line) (omega (arith, f .short, t .headed .size)) ∙ t .headed .size;
+            within = f .short;
+          };
+      lent =
+          record {
+            eeprom = length-over (s .setup .chip .eeprom) (l .eeprom) (omega (arith, f .sound .eeprom, t .lent .eeprom)) ∙ t .lent .eeprom;
+            id = length-over (s .setup .chip .id) (l .id) (omega (arith, f .sound .id, t .lent .id)) ∙ t .lent .id;
+          };
+      goes = f .sound .goes;
+    }
+
+-- What is lent in the course of a feeding: a tape, with a fine state in it.
+pub record Good (l : Loan) : Type 0 where
+  pub facts : TapeFacts l
+  pub fine : Fine (stateIn l)
+
+laid-good : (l : Loan) (s : State) → Good l → Fine s → Good (lending l s)
+laid-good l s g f = record { facts = laid-facts l s (g .facts) f; fine = subst Fine (sym (laid-state l s f)) f }
+
+-- One call feeds the bytes that it takes: it leaves and writes what they do.
+pub record Called (l : Loan) (chunk : List ℕ) (o : Buffer) (g : Given) : Type 0 where
+  pub count : g .count ≤ length chunk
+  pub good : Good (g .after)
+  pub after : stateIn (g .after) ≡ fed (stateIn l) (take (g .count) chunk) .after
+  pub wrote : wrote o (g .written) ≡ fed (stateIn l) (take (g .count) chunk) .answers
+
+one-call : (l : Loan) (chunk : List ℕ) (o : Buffer) → Good l → Called l chunk o (feedInto l chunk o)
+unfolding feedInto takenFrom
+one-call l chunk o g =
+    let s = stateIn l in
+    let k = takenWithin (roomIn o) s chunk in
+    let f = fed-fine (take k chunk) s (g .fine) in
+    subst (Called l chunk o) (yes (gives l (takenFrom s chunk o)) _ (facts-tape l (g .facts)))
+    (record {
+      count = taken-within chunk (roomIn o) s;
+      good = laid-good l (fed s (take k chunk) .after) g f;
+      after = laid-state l (fed s (take k chunk) .after) f;
+      wrote = wrote-text o (fed s (take k chunk) .answers) (taken-room chunk (roomIn o) s (g .fine));
+    })
+
+-- The last one feeds the end of the tape.
+pub record Finished (l : Loan) (o : Buffer) (g : Given) : Type 0 where
+  pub after : stateIn (g .after) ≡ finished (stateIn l) .after
+  pub wrote : wrote o (g .written) ≡ finished (stateIn l) .answers
+
+last-call : (l : Loan) (o : Buffer) → Good l → answerRoom ≤ roomIn o → Finished l o (finishInto l o)
+unfolding finishInto
+last-call l o g r =
+    let s = stateIn l in
+    let f = finished-fine s (g .fine) in
+    subst (Finished l o) (yes (gives l (putInto o 0 (finished s))) _ (both-true (facts-tape l (g .facts)) (le-leb answerRoom (roomIn o) r)))
+    (record {
+      after = laid-state l (finished s .after) f;
+      wrote = wrote-text o (finished s .answers) (omega (arith, finished-room s (g .fine)));
+    })
+
+-- Calls, one after another: what was written, and then all that is left, is the whole.
+pub record Runs (l : Loan) (left : List ℕ) (c : Course) : Type 0 where
+  pub good : Good (c .loan)
+  pub whole : ahead (c .written) (toEnd (fed (stateIn (c .loan)) (c .left))) ≡ toEnd (fed (stateIn l) left)
+
+-- the bytes that a call takes of what it is offered are the first of what is left
+taken-first : (n k : ℕ) (left : List ℕ) → k ≤ length (take n left) → take k (take n left) ++ drop k left ≡ left
+taken-first n k left h =
+    let m : k ≤ n = omega (arith, length-take n left) in
+    ap (λ (x : List ℕ). x ++ drop k left) (take-take k n left m) ∙ take-append-drop k left
+
+to-end : (a : List ℕ) (f : Fed) → ahead a (toEnd f) ≡ toEnd (ahead a f)
+to-end a f = ahead-join a (f .answers) (finished (f .after))
+
+runs : (xs : List Offer) (l : Loan) (left : List ℕ) → Good l → Runs l left (courseOf l left xs)
+unfolding courseOf ChunksJoin
+runs [] l left g = record { good = g; whole = refl }
+runs (x ∷ xs) l left g =
+    let chunk = take (x .size) left in
+    let d = feedInto l chunk (x .into) in
+    let k = d .count in
+    let o = one-call l chunk (x .into) g in
+    let s = stateIn l in
+    let f = fed s (take k chunk) in
+    let c = courseOf (d .after) (drop k left) xs in
+    let r = runs xs (d .after) (drop k left) (o .good) in
+    record {
+      good = r .good;
+      whole =
+          sym (ahead-join (wrote (x .into) (d .written)) (c .written) (toEnd (fed (stateIn (c .loan)) (c .left))))
+          ∙ ap (ahead (wrote (x .into) (d .written))) (r .whole)
+          ∙ (λ i. ahead (o .wrote i) (toEnd (fed (o .after i) (drop k left))))
+          ∙ to-end (f .answers) (fed (f .after) (drop k left))
+          ∙ ap toEnd (sym (fed-join s (take k chunk) (drop k left)))
+          ∙ ap (λ (y : List ℕ). toEnd (fed s y)) (taken-first (x .size) k left (o .count));
+    }
+
+-- a call that gets on takes a byte at least, where one is left; so each leaves less
+takes-some :
+    (n : ℕ) (o : Buffer) (l : Loan) (b : ℕ) (left : List ℕ) → Good l → 0 < n → answerRoom ≤ roomIn o → 0 < feedInto l (take n (b ∷ left)) o .count
+unfolding feedInto takenFrom
+takes-some zero o l b left g h r = absurd (omega arith)
+takes-some (suc n) o l b left g h r =
+    let s = stateIn l in
+    subst (λ (x : Given). 0 < x .count) (yes (gives l (takenFrom s (b ∷ take n left) o)) _ (facts-tape l (g .facts)))
+    (taken-some b (take n left) (roomIn o) s r)
+
+less-left :
+    (x : Offer) (l : Loan) (left : List ℕ) → Good l → GetsOn x
+    → length (drop (feedInto l (take (x .size) left) (x .into) .count) left) ≤ length left - 1
+less-left x l [] g w = let e : List ℕ = [] in omega (arith, length-drop (feedInto l (take (x .size) e) (x .into) .count) e)
+less-left x l (b ∷ left) g w =
+    omega (arith, length-drop (feedInto l (take (x .size) (b ∷ left)) (x .into) .count) (b ∷ left), takes-some (x .size) (x .into) l b left g (w .some) (w .room))
+
+ends-by : (xs : List Offer) (l : Loan) (left : List ℕ) → Good l → AllGetOn xs → length left ≤ length xs → courseOf l left xs .left ≡ []
+unfolding courseOf
+ends-by [] l [] g w h = refl
+ends-by [] l (b ∷ left) g w h = absurd (omega arith)
+ends-by (x ∷ xs) l left g w h =
+    let o = one-call l (take (x .size) left) (x .into) g in
+    ends-by xs (feedInto l (take (x .size) left) (x .into) .after) _ (o .good) (w .1) (omega (arith, less-left x l left g (w .0)))
+
+-- What a tape begins with is good: it has no part, so nothing is asked of its chip.
+begins-good : (l : Loan) → Begins l → Good l
+begins-good l b =
+    let f = tape-facts l (b .fits) in
+    record {
+      facts = f;
+      fine = record { sound = tape-sound l f; valid = λ e. absurd (true≢false (sym (ap (λ (t : Tape). eqb (t .part) 0) (b .tape)) ∙ e)); short = simp length-take (omega arith) };
+    }
+
+begins-state : (l : Loan) → Begins l → stateIn l ≡ state emptySetup []
+begins-state l b = ap (λ (t : Tape). stateIn (loan t (l .line) (l .eeprom) (l .id))) (b .tape)
+
+pub any-feeding : AnyFeeding
+unfolding AnyFeeding FedByLines BytesAccounted fed
+any-feeding l b bytes xs =
+    let g = begins-good l b in
+    let c = courseOf l bytes xs in
+    let r = runs xs l bytes g in
+    let s = stateIn (c .loan) in
+    let start : toEnd (fed (stateIn l) bytes) ≡ toEnd (fed (state emptySetup []) bytes) = ap (λ (x : State). toEnd (fed x bytes)) (begins-state l b) in
+    let answers : toEnd (fed (stateIn l) bytes) .answers ≡ tapeAnswers bytes = ap (λ (f : Fed). f .answers) start ∙ tape-whole (emptySetup .chip) bytes in
+    let end : c .left ≡ [] → ahead (c .written) (finished s) ≡ toEnd (fed (stateIn l) bytes) =
+    λ z. ap (λ (y : List ℕ). ahead (c .written) (toEnd (fed s y))) (sym z) ∙ r .whole in
+    let whole : c .left ≡ [] → (o : Buffer) → answerRoom ≤ roomIn o → printed c o ≡ tapeAnswers bytes =
+    λ z o h.
+    ap (λ (x : List ℕ). c .written ++ x) (last-call (c .loan) o (r .good) h .wrote) ∙ ap (λ (f : Fed). f .answers) (end z) ∙ answers in
+    let left : c .left ≡ [] → (o : Buffer) → answerRoom ≤ roomIn o → setupIn (heldIn (lastCall c o .after)) ≡ leftAfter (emptySetup .chip) bytes =
+    λ z o h. ap (λ (x : State). x .setup) (last-call (c .loan) o (r .good) h .after) ∙ ap (λ (f : Fed). f .after .setup) (end z ∙ start) in
+    record {
+      ends = ends-by xs l bytes g;
+      begins = (toEnd (fed s (c .left)) .answers, ap (λ (f : Fed). f .answers) (r .whole) ∙ answers);
+      whole = whole;
+      accounts =
+          λ z o h.
+          subst (λ (x : List ℕ). AccountsFor (toldBy bytes x) (setupIn (heldIn (lastCall c o .after)))) (sym (whole z o h))
+          (subst (AccountsFor (toldBy bytes (tapeAnswers bytes))) (sym (left z o h)) (bytes-accounted bytes (emptySetup .chip)));
+    }

@@ -1,0 +1,75 @@
+-- Every way to feed a tape: calls of `feed`, one after another, each offered a beginning of what is left of the tape's bytes and a buffer for its
+-- answers; what was not taken is offered again; then `finish`. The calls are the functions' promises (Tape). Not who reads the bytes, and who
+-- writes the answers out.
+-- Assumes nothing.
+use Prim.Native.Nat.{ℕ, _-_, _<_, _≤_}
+use mathlib.Core.Path.{_≡_}
+use mathlib.Core.Bool.{true}
+use mathlib.Core.List.{List, [], _∷_, _++_}
+use lib.ListN.{length, take, drop}
+use Rattle.text.specs.Buffer.{Buffer, roomIn}
+use Rattle.lines.specs.Print.{answerRoom}
+use Rattle.answers.specs.Answer.{setupIn}
+use Rattle.tape.specs.Tape.{tapeAnswers, Loan, heldIn, isTape, startTape, Given, feedInto, finishInto}
+use Rattle.tape.specs.Steps.{AccountsFor, toldBy}
+
+-- a call of `feed`: how many bytes of what is left it is offered, and the buffer for its answers
+pub record Offer : Type 0 where
+  pub size : ℕ
+  pub into : Buffer
+
+-- what a call wrote: the bytes between the buffer's place before it and its place after it
+abbrev pub wrote : Buffer → Buffer → List ℕ
+wrote before after = take (after .at - before .at) (drop (before .at) (after .bytes))
+
+-- how far calls have come: all that is lent, what is left of the tape's bytes, and what was written
+pub record Course : Type 0 where
+  pub loan : Loan
+  pub left : List ℕ
+  pub written : List ℕ
+
+-- calls, one after another
+unfoldable pub courseOf : Loan → List ℕ → List Offer → Course
+courseOf l left [] = record { loan = l; left = left; written = [] }
+courseOf l left (x ∷ xs) =
+    let g : Given = feedInto l (take (x .size) left) (x .into) in
+    let c : Course = courseOf (g .after) (drop (g .count) left) xs in
+    record { loan = c .loan; left = c .left; written = wrote (x .into) (g .written) ++ c .written }
+
+-- the end of it: `finish`, and all that was written
+abbrev pub lastCall : Course → Buffer → Given
+lastCall c o = finishInto (c .loan) o
+
+abbrev pub printed : Course → Buffer → List ℕ
+printed c o = c .written ++ wrote o (lastCall c o .written)
+
+-- a call that gets on: it is offered a byte at least, and has room for an answer
+pub record GetsOn (x : Offer) : Type 0 where
+  pub some : 0 < x .size
+  pub room : answerRoom ≤ roomIn (x .into)
+
+abbrev pub AllGetOn : List Offer → Type 0
+AllGetOn [] = Unit {0}
+AllGetOn (x ∷ xs) = GetsOn x × AllGetOn xs
+
+-- what is lent to a tape before its first byte: the tape that `start` answers, and buffers of their sizes, whatever lies in them
+pub record Begins (l : Loan) : Type 0 where
+  pub tape : l .tape ≡ startTape
+  pub fits : isTape l ≡ true
+
+-- A tape of these bytes, fed by these calls, from what is lent at first.
+pub record FeedsWell (l : Loan) (bytes : List ℕ) (xs : List Offer) : Type 0 where
+  -- it ends: if each call gets on, as many calls as there are bytes leave nothing
+  pub ends : AllGetOn xs → length bytes ≤ length xs → courseOf l bytes xs .left ≡ []
+  -- at any time what was written is a beginning of the answers to the whole tape
+  pub begins : (rest : List ℕ) × (courseOf l bytes xs .written ++ rest ≡ tapeAnswers bytes)
+  -- when nothing is left and `finish` has room, it is all of them
+  pub whole : courseOf l bytes xs .left ≡ [] → (o : Buffer) → answerRoom ≤ roomIn o → printed (courseOf l bytes xs) o ≡ tapeAnswers bytes
+  -- R8. demand 3: what the tape's bytes and the bytes written tell the ledger accounts for the memories that are lent, as they are then
+  pub accounts :
+      courseOf l bytes xs .left ≡ [] → (o : Buffer) → answerRoom ≤ roomIn o
+      → AccountsFor (toldBy bytes (printed (courseOf l bytes xs) o)) (setupIn (heldIn (lastCall (courseOf l bytes xs) o .after)))
+
+-- R9. So it is for every tape and every list of calls.
+unfoldable pub AnyFeeding : Type 0
+AnyFeeding = (l : Loan) → Begins l → (bytes : List ℕ) (xs : List Offer) → FeedsWell l bytes xs
