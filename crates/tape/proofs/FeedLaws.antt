@@ -9,7 +9,7 @@ use native.Mathlib.Omega.{arith}
 use borrow.Author.Tests.{le-leb, ltb-false}
 use lib.Dec.{ltb, leb, eqb}
 use lib.ListN.{length, take, drop, length-append, length-take, length-drop, take-append-drop}
-use lib.Seq.{take-at, drop-at, take-take, length-take-le, sets-eq}
+use lib.Seq.{take-at, take-length, drop-at, take-take, length-take-le, sets-eq}
 use Rattle.base.specs.Words.{pick, over}
 use Rattle.base.proofs.OverLaws.{take-over, length-over}
 use Rattle.base.proofs.Tests.{by-cases, yes, no, pick-case, pick-when, both-true}
@@ -18,13 +18,13 @@ use Rattle.record.proofs.PartLaws.{size-most}
 use Rattle.text.specs.Bytes.{newline}
 use Rattle.text.specs.Buffer.{Buffer, buffer, append, roomIn}
 use Rattle.lines.specs.Print.{answerRoom}
-use Rattle.answers.specs.Answer.{Setup, lineAnswer, eepromRoom, eepromBytes, idBytes, setupIn}
+use Rattle.answers.specs.Answer.{ready, eepromRoom, eepromBytes, idBytes, setupIn}
 use Rattle.answers.proofs.HeldLaws.{Sound, line-sound, held-setup}
 use Rattle.answers.proofs.BoundLaws.{SetupValid, answer-valid, answer-room}
-use Rattle.tape.specs.Tape.{State, state, head, headLimit, Fed, fedTo, ended, fedByte, ahead, fed, finished, ChunksJoin, FedByLines, takenWithin, putInto, takenFrom, Loan, loan, heldIn, stateIn, lending, Given, gives, feedInto, finishInto, tapeAnswers, emptySetup}
+use Rattle.tape.specs.Tape.{State, state, head, headLimit, Fed, fedTo, ended, fedByte, ahead, fed, finished, ChunksJoin, FedByLines, takenWithin, putInto, takenFrom, Loan, loan, heldIn, stateIn, lending, isTape, Given, gives, feedInto, finishInto, tapeAnswers, emptySetup}
 use Rattle.tape.specs.declared.Tape.{Tape}
 use Rattle.tape.specs.Steps.{AccountsFor, toldBy, leftAfter, BytesAccounted}
-use Rattle.tape.specs.Feeding.{Offer, wrote, Course, courseOf, lastCall, printed, GetsOn, AllGetOn, Begins, FeedsWell, AnyFeeding}
+use Rattle.tape.specs.Feeding.{Offer, wrote, Course, courseOf, lastCall, printed, GetsOn, AllGetOn, Begins, AnyFeeding, HasFed}
 use Rattle.tape.proofs.TapeLaws.{fed-join, ahead-join, TapeFacts, tape-facts, facts-tape, tape-sound}
 use Rattle.tape.proofs.WholeLaws.{toEnd, tape-whole, taken-within, taken-some}
 use Rattle.tape.proofs.LedgerLaws.{bytes-accounted}
@@ -264,3 +264,38 @@ any-feeding l b bytes xs =
           subst (λ (x : List ℕ). AccountsFor (toldBy bytes x) (setupIn (heldIn (lastCall c o .after)))) (sym (whole z o h))
           (subst (AccountsFor (toldBy bytes (tapeAnswers bytes))) (sym (left z o h)) (bytes-accounted bytes (emptySetup .chip)));
     }
+
+-- How far a caller is that reads piece by piece: at first nothing is fed; a call feeds what it takes of its chunk, and where it has room that is some
+-- of it.
+empty-fine : Fine (state emptySetup [])
+unfolding ready
+empty-fine = record { sound = record { goes = refl; eeprom = refl; id = refl }; valid = λ e. absurd (true≢false e); short = omega arith }
+
+has-good : (l : Loan) (bytes : List ℕ) → HasFed l bytes → Good l
+has-good l bytes h = record { facts = tape-facts l (h .tape); fine = subst Fine (sym (h .reached)) (fed-fine bytes (state emptySetup []) empty-fine) }
+
+pub has-start : (l : Loan) → Begins l → HasFed l []
+unfolding fed
+has-start l b = record { tape = b .fits; reached = begins-state l b }
+
+pub has-more : (l : Loan) (bytes chunk : List ℕ) (o : Buffer) → HasFed l bytes → HasFed (feedInto l chunk o .after) (bytes ++ take (feedInto l chunk o .count) chunk)
+unfolding ChunksJoin
+has-more l bytes chunk o h =
+    let c = one-call l chunk o (has-good l bytes h) in
+    let k = take (feedInto l chunk o .count) chunk in
+    record {
+      tape = facts-tape _ (c .good .facts);
+      reached =
+          c .after ∙ ap (λ (s : State). fed s k .after) (h .reached) ∙ sym (ap (λ (f : Fed). f .after) (fed-join (state emptySetup []) bytes k));
+    }
+
+pub has-some :
+    (l : Loan) (bytes : List ℕ) (b : ℕ) (chunk : List ℕ) (o : Buffer) → HasFed l bytes → answerRoom ≤ roomIn o → 0 < feedInto l (b ∷ chunk) o .count
+has-some l bytes b chunk o h r =
+    let n = suc (length chunk) in
+    subst (λ (x : List ℕ). 0 < feedInto l (b ∷ x) o .count) (take-length chunk) (takes-some n o l b chunk (has-good l bytes h) (omega arith) r)
+
+-- no call takes more than its chunk has
+pub feed-count : (l : Loan) (chunk : List ℕ) (o : Buffer) → feedInto l chunk o .count ≤ length chunk
+unfolding feedInto takenFrom
+feed-count l chunk o = pick-case (λ (g : Given). g .count ≤ length chunk) (isTape l) (taken-within chunk (roomIn o) (stateIn l)) (omega arith)

@@ -10,7 +10,7 @@ use lib.ListN.{length, take, drop}
 use Rattle.text.specs.Buffer.{Buffer, roomIn}
 use Rattle.lines.specs.Print.{answerRoom}
 use Rattle.answers.specs.Answer.{setupIn}
-use Rattle.tape.specs.Tape.{tapeAnswers, Loan, heldIn, isTape, startTape, Given, feedInto, finishInto}
+use Rattle.tape.specs.Tape.{emptySetup, tapeAnswers, state, fed, Loan, heldIn, stateIn, isTape, startTape, Given, feedInto, finishInto}
 use Rattle.tape.specs.Steps.{AccountsFor, toldBy}
 
 -- a call of `feed`: how many bytes of what is left it is offered, and the buffer for its answers
@@ -73,3 +73,9 @@ pub record FeedsWell (l : Loan) (bytes : List ℕ) (xs : List Offer) : Type 0 wh
 -- R9. So it is for every tape and every list of calls.
 unfoldable pub AnyFeeding : Type 0
 AnyFeeding = (l : Loan) → Begins l → (bytes : List ℕ) (xs : List Offer) → FeedsWell l bytes xs
+
+-- What is lent has been fed these bytes of a tape and no others, by whatever calls: it holds the state that they lead to. So a caller that reads
+-- piece by piece says how far it is.
+pub record HasFed (l : Loan) (bytes : List ℕ) : Type 0 where
+  pub tape : isTape l ≡ true
+  pub reached : stateIn l ≡ fed (state emptySetup []) bytes .after
