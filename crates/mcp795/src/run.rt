@@ -1,6 +1,14 @@
 // One tape, from a descriptor to standard output. All answers to what has been read are written before more is read.
 use tape::Tape;
+use text::bytes;
 ghost use Prim.Native.Nat.{_≤_};
+ghost use mathlib.Core.Path.{_≡_};
+ghost use mathlib.Core.Bool.{false};
+ghost use lib.ListN.{length};
+ghost use Rattle.lines.specs.Print.{answerRoom};
+ghost use Rattle.tape.specs.Tape.{loan, startTape};
+ghost use Rattle.tape.specs.Feeding.{Begins};
+ghost use Rattle.mcp795.specs.Reading.{IsFed, FeedsAll, FeedsRead};
 
 // A tape between two reads: how far it has come, whether to read on, and whether standard output takes answers.
 struct Reading {
@@ -9,20 +17,9 @@ struct Reading {
     open: bool,
 }
 
-// The lesser of a count and a limit. The tape crate's counts lie within the bytes that they count; this spares us the proof.
-fn at_most(limit: usize, count: usize) -> usize
-    ensures { λ r. ⌜ r ≤ limit ⌝ }
-{
-    if count < limit {
-        return count;
-    }
-    limit
-}
-
-// Writes so many bytes of answers, and tells where that fails.
-fn write_answers(out: &[u8], count: usize) -> bool {
-    let n = at_most(out.len(), count);
-    let written = io::write_all(libc::STDOUT_FILENO, &out[..n]);
+// Writes answers, and tells where that fails.
+fn write_answers(answers: &[u8]) -> bool {
+    let written = io::write_all(libc::STDOUT_FILENO, answers);
     if written {
         return true;
     }
@@ -30,7 +27,7 @@ fn write_answers(out: &[u8], count: usize) -> bool {
     false
 }
 
-// Answers what was read. Where the output is full before that, it is written out, and the rest follows.
+// Answers what was read. Where the output is full before that, it is written out, and what was not taken is offered again.
 fn answer(
     chunk: &[u8],
     before: Tape,
@@ -38,19 +35,28 @@ fn answer(
     eeprom: &mut [u8],
     id: &mut [u8],
     out: &mut [u8],
-) -> Reading {
+) -> Reading
+    requires { ⌜ IsFed (loan before (now line) (now eeprom) (now id)) ⌝ }
+    requires { ⌜ answerRoom ≤ length (now out) ⌝ }
+    ensures { λ r. ⌜ r .more ≡ r .open ⌝ }
+    ensures { λ r. ⌜ FeedsAll (loan before (now (line .entry)) (now (eeprom .entry)) (now (id .entry))) (now (chunk .entry)) (r .open)
+        (loan (r .tape) (now (line .exit)) (now (eeprom .exit)) (now (id .exit))) ⌝ }
+{
     let mut tape = before;
     let mut from: usize = 0;
     while from < chunk.len() {
-        let fed = tape::chunk::feed(&chunk[from..], tape, line, eeprom, id, out, 0);
-        let open = write_answers(out, fed.at);
-        let taken = at_most(chunk.len() - from, fed.taken);
+        let left = bytes::rest(chunk, from);
+        let fed = tape::chunk::feed(left, tape, line, eeprom, id, out, 0);
+        let open = write_answers(bytes::first(out, fed.at));
         tape = fed.tape;
-        let more = open & (0 < taken);
-        if !more {
-            return Reading { tape, more, open };
+        if !open {
+            return Reading {
+                tape,
+                more: false,
+                open: false,
+            };
         }
-        from += taken;
+        from += fed.taken;
     }
     Reading {
         tape,
@@ -66,9 +72,11 @@ fn finish(
     eeprom: &mut [u8],
     id: &mut [u8],
     out: &mut [u8],
-) -> Reading {
+) -> Reading
+    ensures { λ r. ⌜ r .more ≡ false ⌝ }
+{
     let fed = tape::chunk::finish(before, line, eeprom, id, out, 0);
-    let open = write_answers(out, fed.at);
+    let open = write_answers(bytes::first(out, fed.at));
     let tape = fed.tape;
     Reading {
         tape,
@@ -87,7 +95,12 @@ fn read_once(
     eeprom: &mut [u8],
     id: &mut [u8],
     out: &mut [u8],
-) -> Reading {
+) -> Reading
+    requires { ⌜ IsFed (loan before (now line) (now eeprom) (now id)) ⌝ }
+    requires { ⌜ answerRoom ≤ length (now out) ⌝ }
+    ensures { λ r. ⌜ FeedsRead (loan before (now (line .entry)) (now (eeprom .entry)) (now (id .entry))) (now (input .exit)) (r .more)
+        (loan (r .tape) (now (line .exit)) (now (eeprom .exit)) (now (id .exit))) ⌝ }
+{
     let got = libc::read(fd, input);
     if got < 0 {
         crate::tell(name);
@@ -113,7 +126,10 @@ fn read_all(
     eeprom: &mut [u8],
     id: &mut [u8],
     out: &mut [u8],
-) -> bool {
+) -> bool
+    requires { ⌜ Begins (loan startTape (now line) (now eeprom) (now id)) ⌝ }
+    requires { ⌜ answerRoom ≤ length (now out) ⌝ }
+{
     let mut reading = Reading {
         tape: tape::chunk::start(),
         more: true,

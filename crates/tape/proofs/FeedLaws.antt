@@ -21,7 +21,7 @@ use Rattle.lines.specs.Print.{answerRoom}
 use Rattle.answers.specs.Answer.{ready, eepromRoom, eepromBytes, idBytes, setupIn}
 use Rattle.answers.proofs.HeldLaws.{Sound, line-sound, held-setup}
 use Rattle.answers.proofs.BoundLaws.{SetupValid, answer-valid, answer-room}
-use Rattle.tape.specs.Tape.{State, state, head, headLimit, Fed, fedTo, ended, fedByte, ahead, fed, finished, ChunksJoin, FedByLines, takenWithin, putInto, takenFrom, Loan, loan, heldIn, stateIn, lending, isTape, Given, gives, feedInto, finishInto, tapeAnswers, emptySetup}
+use Rattle.tape.specs.Tape.{State, state, head, headLimit, Fed, fedTo, ended, fedByte, ahead, fed, finished, ChunksJoin, FedByLines, takenWithin, putInto, takenFrom, Loan, loan, heldIn, stateIn, lending, isTape, startTape, Given, gives, feedInto, finishInto, tapeAnswers, emptySetup}
 use Rattle.tape.specs.declared.Tape.{Tape}
 use Rattle.tape.specs.Steps.{AccountsFor, toldBy, leftAfter, BytesAccounted}
 use Rattle.tape.specs.Feeding.{Offer, wrote, Course, courseOf, lastCall, printed, GetsOn, AllGetOn, Begins, AnyFeeding, HasFed}
@@ -273,6 +273,14 @@ empty-fine = record { sound = record { goes = refl; eeprom = refl; id = refl }; 
 
 has-good : (l : Loan) (bytes : List ℕ) → HasFed l bytes → Good l
 has-good l bytes h = record { facts = tape-facts l (h .tape); fine = subst Fine (sym (h .reached)) (fed-fine bytes (state emptySetup []) empty-fine) }
+
+pub begins-with : (line ee id : List ℕ) → length line ≡ headLimit → length ee ≡ eepromRoom → length id ≡ idSize → Begins (loan startTape line ee id)
+unfolding ready
+begins-with line ee id l e i =
+    record {
+      tape = refl;
+      fits = facts-tape (loan startTape line ee id) (record { headed = record { size = l; within = omega arith }; lent = record { eeprom = e; id = i }; goes = refl });
+    }
 
 pub has-start : (l : Loan) → Begins l → HasFed l []
 unfolding fed

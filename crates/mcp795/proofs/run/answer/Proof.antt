@@ -1,71 +1,112 @@
--- `mcp795::run::answer` is safe and ends: each turn takes at least one of the bytes that are left, and no more than are left.
+-- `mcp795::run::answer`: each turn feeds some of what is left of the chunk, so that it is fed whole.
 -- Assumes nothing.
-use mathlib.Core.Path.{_≡_}
-use Prim.Native.Nat.{_-_, _<_, _≤_}
 use native.Mathlib.Omega.{arith}
-use borrow.Author.Needs.{needs}
-use borrow.Author.Tests.{ltb-true, not-false}
-use lib.Dec.{ltb}
+use mathlib.Core.Path.{_≡_, refl, ap, _∙_}
+use mathlib.Core.Bool.{false≢true}
+use mathlib.Core.List.{List}
+use Rattle.text.specs.Buffer.{buffer}
+use Prim.Native.Nat.{ℕ, _-_, _≤_}
 use lib.ListN.{length}
-use Rattle.base.proofs.Tests.{both-right}
+use borrow.Author.Needs.{needs}
+use Rattle.tape.specs.Tape.{loan, givenBy}
+use Rattle.mcp795.proofs.ReadingLaws.{FedTo, Goes, goes-on, fed-none, fed-whole}
 use Rattle.mcp795.proofs.run.answer.Statement.{statement}
 use Rattle.mcp795.proofs.run.answer.Tie as tie
 
+record Bounds (l₀ e₀ i₀ o₀ chunk l e i o : List ℕ) (from : ℕ) : Type 0 where
+  line : length l ≡ length l₀
+  eeprom : length e ≡ length e₀
+  id : length i ≡ length i₀
+  out : length o ≡ length o₀
+  place : from ≤ length chunk
+
 abbrev Inv-loop : tie.InvT-loop
 Inv-loop chunk line₀ eeprom₀ id₀ out₀ tape₀ from₀ line eeprom id out tape from =
-    (from ≤ length chunk) × (length line ≡ length line₀) × (length eeprom ≡ length eeprom₀) × (length id ≡ length id₀) × (length out ≡ length out₀)
+    Bounds line₀ eeprom₀ id₀ out₀ chunk line eeprom id out from × FedTo (loan tape₀ line₀ eeprom₀ id₀) chunk from (loan tape line eeprom id)
 
 abbrev μ-loop : tie.MeasureT-loop
 μ-loop chunk line₀ eeprom₀ id₀ out₀ tape₀ from₀ line eeprom id out tape from = length chunk - from
 
--- the part of the loop that a turn has seen: its call of `at_most`, its test, and the place where it starts
+loop-holds : tie.Need-loop-holds Inv-loop μ-loop
+loop-holds c =
+    let a = c .before .before .before .before .before .args in
+    (record { line = refl; eeprom = refl; id = refl; out = refl; place = omega arith }, fed-none (loan (a .before) (a .line .now) (a .eeprom .now) (a .id .now)) (a .chunk .now))
+
+-- what a turn's call gives
+turn :
+    (c : tie.After-feed Inv-loop μ-loop)
+    → let f = c .feed in
+    let a = c .before .before .before .before .before .before .before .before .before .before .before .before .before .args in
+    Goes (loan (a .before) (a .line .now) (a .eeprom .now) (a .id .now)) (a .chunk .now) (c .before .before .before .before .before .before .before .loop .from)
+    (givenBy (f .result) (f .last .1 .1 .0) (f .last .1 .1 .1 .0) (f .last .1 .1 .1 .1 .0) (f .last .1 .1 .1 .1 .1 .0))
+turn c =
+    let b = c .before .before .before .before .before .before .before .before .before .before .before .before .before in
+    let a = b .args in
+    let l = c .before .before .before .before .before .before .before .loop in
+    goes-on (loan (a .before) (a .line .now) (a .eeprom .now) (a .id .now)) (loan (l .tape) (l .line) (l .eeprom) (l .id)) (a .chunk .now)
+    (c .before .before .before .before .before .rest .result .now) (l .from) (buffer (l .out) 0) _ (b .pre .0) (c .before .before .before .before .before .rest .ensures) (c .feed .ensures)
+    (c .before .before .before .before .before .before .loop-test .taken) (omega (arith, b .pre .1, l .inv .0 .out)) (l .inv .1)
+
+returns : tie.Need-returns Inv-loop μ-loop
+returns c = (refl, λ bytes h t. absurd (false≢true t))
+
 add-from : tie.Need-add-from Inv-loop μ-loop
-add-from c =
-    let d = c .before .before in
-    let l = d .before .before .before .before .before .before .before .before .before .before .before .before .before .before .before .before .before in
-    let s = l .before .before .before .before .before .before .before in
-    let h = l .loop-test .taken in
-    let t = d .at-most .ensures in
-    record { fits = omega arith }
+add-from c = record { fits = omega (arith, turn (c .before .before .before .before .before .before .before .before .before .before .before .before .before .before) .within, c .before .before .before .before .before .before .before .before .before .before .before .before .before .before .before .before .before .before .before .before .before .before .before .before .before .before .before .good .0 .0) }
 
 loop-less : tie.Need-loop-less Inv-loop μ-loop
 loop-less c =
-    let d = c .before .before in
-    let n = d .at-most .result in
-    let some : 0 < n = ltb-true 0 n (both-right (d .before .write-answers .result) (ltb 0 n) (not-false _ (c .if1 .left))) in
-    let l = d .before .before .before .before .before .before .before .before .before .before .before .before .before .before .before .before .before in
-    omega (arith, some, l .loop-test .taken, d .at-most .ensures)
+    let t = turn (c .before .before .before .before .before .before .before .before .before .before .before .before .before .before) in
+    omega (arith, t .some, t .within)
 
 loop-again : tie.Need-loop-again Inv-loop μ-loop
 loop-again c =
-    let d = c .before .before in
-    let l = d .before .before .before .before .before .before .before .before .before .before .before .before .before .before .before .before .before in
-    (omega (arith, l .loop-test .taken, d .at-most .ensures), search needs, search needs, search needs, search needs)
+    let d = c .before .before .before .before .before .before .before .before .before .before .before .before .before .before in
+    let t = turn d in
+    let f = d .feed in
+    let i = d .before .before .before .before .before .before .before .loop .inv .0 in (
+      record {
+        line = f .kept .1 .1 .0 ∙ i .line;
+        eeprom = f .kept .1 .1 .1 .0 ∙ i .eeprom;
+        id = f .kept .1 .1 .1 .1 .0 ∙ i .id;
+        out = f .kept .1 .1 .1 .1 .1 .0 ∙ i .out;
+        place = t .within;
+      },
+      t .fed,
+    )
+
+returns-2 : tie.Need-returns-2 Inv-loop μ-loop
+returns-2 c =
+    let l = c .before .loop in
+    let a = c .before .before .before .before .before .before .before .args in
+    (refl, λ bytes h t. fed-whole (loan (a .before) (a .line .now) (a .eeprom .now) (a .id .now)) (loan (l .tape) (l .line) (l .eeprom) (l .id)) (a .chunk .now) (l .from) (c .loop-test .left) (l .inv .1) bytes h)
+
+same-length : tie.Need-same-length Inv-loop μ-loop
+same-length c = c .before .before .before .before .before .before .before .before .before .before .before .before .before .feed .kept .1 .1 .0 ∙ c .before .before .before .before .before .before .before .before .before .before .before .before .before .before .before .before .before .before .before .before .loop .inv .0 .line
+
+same-length-2 : tie.Need-same-length-2 Inv-loop μ-loop
+same-length-2 c = c .before .before .before .before .before .before .before .before .before .before .before .before .before .feed .kept .1 .1 .1 .0 ∙ c .before .before .before .before .before .before .before .before .before .before .before .before .before .before .before .before .before .before .before .before .loop .inv .0 .eeprom
+
+same-length-3 : tie.Need-same-length-3 Inv-loop μ-loop
+same-length-3 c = c .before .before .before .before .before .before .before .before .before .before .before .before .before .feed .kept .1 .1 .1 .1 .0 ∙ c .before .before .before .before .before .before .before .before .before .before .before .before .before .before .before .before .before .before .before .before .loop .inv .0 .id
+
+same-length-4 : tie.Need-same-length-4 Inv-loop μ-loop
+same-length-4 c = c .before .before .before .before .before .before .before .before .before .before .before .before .before .feed .kept .1 .1 .1 .1 .1 .0 ∙ c .before .before .before .before .before .before .before .before .before .before .before .before .before .before .before .before .before .before .before .before .loop .inv .0 .out
+
+same-length-5 : tie.Need-same-length-5 Inv-loop μ-loop
+same-length-5 c = c .before .loop .inv .0 .line
+
+same-length-6 : tie.Need-same-length-6 Inv-loop μ-loop
+same-length-6 c = c .before .loop .inv .0 .eeprom
+
+same-length-7 : tie.Need-same-length-7 Inv-loop μ-loop
+same-length-7 c = c .before .loop .inv .0 .id
+
+same-length-8 : tie.Need-same-length-8 Inv-loop μ-loop
+same-length-8 c = c .before .loop .inv .0 .out
 
 pub answer-spec : {M : Type 1} → statement M
 answer-spec =
     tie.close
     (tie.spec
-    Inv-loop
-    μ-loop
-    (λ c. search needs)
-    (λ c. search needs)
-    (λ c. search needs)
-    (λ c. search needs)
-    (λ c κs. search needs)
-    (λ c κs. search needs)
-    (λ c. search needs)
-    (λ c κs. search needs)
-    (λ c. search needs)
-    (λ c. search needs)
-    (λ c. search needs)
-    (λ c. search needs)
-    (λ c. search needs)
-    add-from
-    loop-less
-    loop-again
-    (λ c. search needs)
-    (λ c. search needs)
-    (λ c. search needs)
-    (λ c. search needs)
-    (λ c. search needs))
+    Inv-loop μ-loop loop-holds (λ c κs. search needs) (λ c κs. search needs) (λ c κs. search needs) (λ c κs. search needs) same-length
+    same-length-2 same-length-3 same-length-4 returns add-from loop-less loop-again same-length-5 same-length-6 same-length-7 same-length-8 returns-2)

@@ -1,43 +1,72 @@
--- `mcp795::run::read_all` is safe and ends: the turns that are left run down. What is lent stays as long as it was.
+-- `mcp795::run::read_all`: as long as there is more to read, what was read so far has been fed; the turns that are left run down.
 -- Assumes nothing.
-use mathlib.Core.Path.{_≡_}
-use borrow.Author.Needs.{needs}
+use native.Mathlib.Omega.{arith}
+use mathlib.Core.Path.{_≡_, refl, sym, subst, _∙_}
+use mathlib.Core.Bool.{true}
+use mathlib.Core.List.{List, []}
+use Prim.Native.Nat.{ℕ}
 use lib.ListN.{length}
+use borrow.Author.Needs.{needs}
+use borrow.Author.Tests.{not-false}
+use Rattle.tape.specs.declared.Tape.{Tape}
+use Rattle.tape.specs.Tape.{loan, startTape}
+use Rattle.tape.specs.Feeding.{HasFed}
+use Rattle.tape.proofs.FeedLaws.{has-start}
+use Rattle.mcp795.specs.Reading.{IsFed}
+use Rattle.mcp795.proofs.ReadingLaws.{read-on}
 use Rattle.mcp795.proofs.run.read_all.Statement.{statement}
 use Rattle.mcp795.proofs.run.read_all.Tie as tie
 
+-- what is lent stays as long as it was
+record Bounds (n₀ l₀ e₀ i₀ o₀ n l e i o : List ℕ) : Type 0 where
+  input : length n ≡ length n₀
+  line : length l ≡ length l₀
+  eeprom : length e ≡ length e₀
+  id : length i ≡ length i₀
+  out : length o ≡ length o₀
+
 abbrev Inv-loop : tie.InvT-loop
 Inv-loop fd name input₀ line₀ eeprom₀ id₀ out₀ reading₀ turns₀ input line eeprom id out reading turns =
-    (length input ≡ length input₀)
-    × (length line ≡ length line₀)
-    × (length eeprom ≡ length eeprom₀)
-    × (length id ≡ length id₀)
-    × (length out ≡ length out₀)
+    Bounds input₀ line₀ eeprom₀ id₀ out₀ input line eeprom id out × (reading .more ≡ true → IsFed (loan (reading .tape) line eeprom id))
 
 abbrev μ-loop : tie.MeasureT-loop
 μ-loop fd name input₀ line₀ eeprom₀ id₀ out₀ reading₀ turns₀ input line eeprom id out reading turns = turns
+
+loop-holds : tie.Need-loop-holds Inv-loop μ-loop
+loop-holds c =
+    let b = c .before .before .before .before .before .before .before in
+    let a = b .args in
+    let f = has-start (loan startTape (a .line .now) (a .eeprom .now) (a .id .now)) (b .pre .0) in (
+      record { input = refl; line = refl; eeprom = refl; id = refl; out = refl },
+      λ t. ([], subst (λ (x : Tape). HasFed (loan x (a .line .now) (a .eeprom .now) (a .id .now)) []) (sym (c .start .ensures)) f),
+    )
+
+read-once-requires : tie.Need-read-once-requires Inv-loop μ-loop
+read-once-requires c κs =
+    let l = c .before .before .before .before .before .before .before .before .before .loop in
+    (l .inv .1 (not-false (l .reading .more) (c .before .before .before .before .before .before .if1 .left)), omega (arith, c .before .before .before .before .before .before .before .before .before .before .before .before .before .before .before .before .before .pre .1, l .inv .0 .out))
+
+loop-again : tie.Need-loop-again Inv-loop μ-loop
+loop-again c =
+    let f = c .before .before .before .before .before .before .before .before .before .before .read-once in
+    let l = c .before .before .before .before .before .before .before .before .before .before .before .before .before .before .before .before .before .before .before .before .loop in
+    let i = l .inv .0 in
+    let ll = loan (l .reading .tape) (l .line) (l .eeprom) (l .id) in
+    let next = loan (f .result .tape) (f .last .1 .1 .1 .1 .0) (f .last .1 .1 .1 .1 .1 .0) (f .last .1 .1 .1 .1 .1 .1 .0) in (
+      record {
+        input = f .kept .1 .1 .1 .0 ∙ i .input;
+        line = f .kept .1 .1 .1 .1 .0 ∙ i .line;
+        eeprom = f .kept .1 .1 .1 .1 .1 .0 ∙ i .eeprom;
+        id = f .kept .1 .1 .1 .1 .1 .1 .0 ∙ i .id;
+        out = f .kept .1 .1 .1 .1 .1 .1 .1 .0 ∙ i .out;
+      },
+      read-on ll next (f .last .1 .1 .1 .0) (f .result .more) (l .inv .1 (not-false (l .reading .more) (c .before .before .before .before .before .before .before .before .before .before .before .before .before .before .before .before .before .if1 .left))) (f .ensures),
+    )
 
 pub read-all-spec : {M : Type 1} → statement M
 read-all-spec =
     tie.close
     (tie.spec
-    Inv-loop
-    μ-loop
-    (λ c κs. search needs)
-    (λ c. search needs)
-    (λ c. search needs)
-    (λ c. search needs)
-    (λ c. search needs)
-    (λ c. search needs)
-    (λ c. search needs)
-    (λ c. search needs)
-    (λ c κs. search needs)
-    (λ c. search needs)
-    (λ c. search needs)
-    (λ c. search needs)
-    (λ c. search needs)
-    (λ c. search needs)
-    (λ c. search needs)
-    (λ c. search needs)
-    (λ c. search needs)
-    (λ c. search needs))
+    Inv-loop μ-loop (λ c κs. search needs) loop-holds (λ c. search needs) (λ c. search needs) (λ c. search needs) (λ c. search needs)
+    (λ c. search needs) (λ c. search needs) read-once-requires (λ c. search needs) (λ c. search needs) loop-again (λ c. search needs)
+    (λ c. search needs) (λ c. search needs) (λ c. search needs) (λ c. search needs) (λ c. search needs))

@@ -1,0 +1,18 @@
+-- `mcp795::run::run_tape`: its arrays have the sizes that a tape is lent.
+-- Assumes nothing.
+use native.Mathlib.Omega.{arith}
+use mathlib.Core.Path.{refl}
+use borrow.Author.Needs.{needs}
+use Rattle.tape.proofs.FeedLaws.{begins-with}
+use Rattle.mcp795.proofs.run.run_tape.Statement.{statement}
+use Rattle.mcp795.proofs.run.run_tape.Tie as tie
+
+read-all-requires : tie.Need-read-all-requires
+read-all-requires c κs = (begins-with _ _ _ refl refl refl, omega (arith, c .before .before .before .before .before .large-buffer2 .ensures))
+
+pub run-tape-spec : {M : Type 1} → statement M
+run-tape-spec =
+    tie.close
+    (tie.spec
+    (λ c κs. search needs) (λ c κs. search needs) (λ c. search needs) (λ c. search needs) (λ c. search needs) (λ c. search needs)
+    (λ c. search needs) read-all-requires (λ c. search needs))
