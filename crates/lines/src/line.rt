@@ -24,34 +24,38 @@ fn name_size(line: &[u8]) -> usize
     bytes::leading_of(Kind::Letter, bytes::rest(line, 3))
 }
 
-fn name_text(line: &[u8]) -> &[u8]
+// What follows asks for that length, so that it is counted once.
+fn name_text(line: &[u8], size: usize) -> &[u8]
+    requires { ⌜ size ≡ nameSize (now line) ⌝ }
     ensures { λ r. ⌜ now r ≡ nameText (now (line .entry)) ⌝ }
 {
-    bytes::first(bytes::rest(line, 3), name_size(line))
+    bytes::first(bytes::rest(line, 3), size)
 }
 
-fn after_name(line: &[u8]) -> &[u8]
+fn after_name(line: &[u8], size: usize) -> &[u8]
+    requires { ⌜ size ≡ nameSize (now line) ⌝ }
     ensures { λ r. ⌜ now r ≡ afterName (now (line .entry)) ⌝ }
 {
-    bytes::rest(bytes::rest(line, 3), name_size(line))
+    bytes::rest(bytes::rest(line, 3), size)
 }
 
 // T5, G9. The text of the number, a part of the line that is lent.
-pub fn digits(line: &[u8]) -> &[u8]
+pub fn digits(line: &[u8], size: usize) -> &[u8]
+    requires { ⌜ size ≡ nameSize (now line) ⌝ }
     ensures { λ r. ⌜ now r ≡ digitsText (now (line .entry)) ⌝ }
 {
-    bytes::rest(after_name(line), 5)
+    bytes::rest(after_name(line, size), 5)
 }
 
-fn in_form(line: &[u8]) -> bool
+fn in_form(line: &[u8], size: usize) -> bool
+    requires { ⌜ size ≡ nameSize (now line) ⌝ }
     ensures { λ r. ⌜ r ≡ inForm (now (line .entry)) ⌝ }
 {
     let op = bytes::agreement(b"op=", line);
-    let n = name_size(line);
-    let arg = bytes::agreement(b" arg=", after_name(line));
-    let text = digits(line);
+    let arg = bytes::agreement(b" arg=", after_name(line, size));
+    let text = digits(line, size);
     let run = bytes::leading_of(Kind::Digit, text);
-    (op == 3) & (0 < n) & (arg == 5) & (0 < text.len()) & (run == text.len())
+    (op == 3) & (0 < size) & (arg == 5) & (0 < text.len()) & (run == text.len())
 }
 
 // The name where s is its word, else the other.
@@ -105,13 +109,15 @@ fn bad_digits(s: &[u8]) -> bool
     decimal::needless_zero(s) | (DIGIT_LIMIT < s.len())
 }
 
-// A31. A line that is bad by itself.
-fn bad_line(line: &[u8]) -> bool
+// A31. A line that is bad by itself, with the length of its name and what that is.
+fn bad_line(line: &[u8], size: usize, name: Name) -> bool
+    requires { ⌜ size ≡ nameSize (now line) ⌝ }
+    requires { ⌜ name ≡ nameOf (nameText (now line)) ⌝ }
     ensures { λ r. ⌜ r ≡ badLine (now (line .entry)) ⌝ }
 {
-    let formed = in_form(line);
-    let unknown = unknown_name(name_of(name_text(line)));
-    let bad = bad_digits(digits(line));
+    let formed = in_form(line, size);
+    let unknown = unknown_name(name);
+    let bad = bad_digits(digits(line, size));
     (LINE_LIMIT < line.len()) | !formed | unknown | bad
 }
 
@@ -119,8 +125,10 @@ fn bad_line(line: &[u8]) -> bool
 pub fn request(line: &[u8]) -> Request
     ensures { λ r. ⌜ r ≡ requestOf (now (line .entry)) ⌝ }
 {
-    if bad_line(line) {
+    let size = name_size(line);
+    let name = name_of(name_text(line, size));
+    if bad_line(line, size, name) {
         return Request::Bad;
     }
-    asked_for(name_of(name_text(line)), decimal::value_of(digits(line)))
+    asked_for(name, decimal::value_of(digits(line, size)))
 }

@@ -45,8 +45,10 @@ pub fn agreement(word: &[u8], s: &[u8]) -> usize
 pub fn is_word(word: &[u8], s: &[u8]) -> bool
     ensures { λ r. ⌜ r ≡ isWord (now (word .entry)) (now (s .entry)) ⌝ }
 {
-    let n = agreement(word, s);
-    (s.len() == word.len()) & (n == word.len())
+    if s.len() != word.len() {
+        return false;
+    }
+    agreement(word, s) == word.len()
 }
 
 fn is_of(kind: Kind, b: u8) -> bool

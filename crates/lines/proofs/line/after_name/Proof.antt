@@ -5,7 +5,7 @@ use Rattle.lines.proofs.line.after_name.Statement.{statement}
 use Rattle.lines.proofs.line.after_name.Tie as tie
 
 returns : tie.Need-returns
-returns c = simp (c .rest2 .ensures, c .before .name-size .ensures, c .before .before .rest .ensures)
+returns c = simp (c .rest2 .ensures, c .before .before .before .pre, c .before .rest .ensures)
 
 pub after-name-spec : {M : Type 1} → statement M
-after-name-spec = tie.close (tie.spec (λ c κs. search needs) (λ c κs. search needs) (λ c κs. search needs) returns)
+after-name-spec = tie.close (tie.spec (λ c κs. search needs) (λ c κs. search needs) returns)

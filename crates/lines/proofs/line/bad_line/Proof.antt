@@ -13,15 +13,10 @@ returns c =
       c .bad-digits .ensures,
       c .before .digits .ensures,
       b .unknown-name .ensures,
-      b .before .name-of .ensures,
-      b .before .before .name-text .ensures,
-      b .before .before .before .in-form .ensures,
+      b .before .in-form .ensures,
+      b .before .before .before .pre .1,
     )
 
 pub bad-line-spec : {M : Type 1} → statement M
-unfolding badLine
 bad-line-spec =
-    tie.close
-    (tie.spec
-    (λ c κs. search needs) (λ c κs. search needs) (λ c κs. search needs) (λ c κs. search needs) (λ c κs. search needs)
-    (λ c κs. search needs) returns)
+    tie.close (tie.spec (λ c κs. search needs) (λ c κs. search needs) (λ c κs. search needs) (λ c κs. search needs) returns)

@@ -10,5 +10,4 @@ unfolding digitsText
 returns c = simp (c .rest .ensures, c .before .after-name .ensures)
 
 pub digits-spec : {M : Type 1} → statement M
-unfolding digitsText
 digits-spec = tie.close (tie.spec (λ c κs. search needs) (λ c κs. search needs) returns)

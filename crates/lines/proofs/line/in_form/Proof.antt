@@ -14,14 +14,13 @@ returns c =
       c .before .digits .ensures,
       b .agreement2 .ensures,
       b .before .after-name .ensures,
-      b .before .before .before .name-size .ensures,
-      b .before .before .before .before .agreement .ensures,
+      b .before .before .before .before .before .before .pre,
+      b .before .before .before .agreement .ensures,
     )
 
 pub in-form-spec : {M : Type 1} → statement M
-unfolding inForm
 in-form-spec =
     tie.close
     (tie.spec
-    (λ c. search needs) (λ c κs. search needs) (λ c κs. search needs) (λ c. search needs) (λ c κs. search needs) (λ c κs. search needs)
+    (λ c. search needs) (λ c κs. search needs) (λ c. search needs) (λ c κs. search needs) (λ c κs. search needs)
     (λ c κs. search needs) (λ c κs. search needs) returns)

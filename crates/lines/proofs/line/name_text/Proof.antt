@@ -5,7 +5,7 @@ use Rattle.lines.proofs.line.name_text.Statement.{statement}
 use Rattle.lines.proofs.line.name_text.Tie as tie
 
 returns : tie.Need-returns
-returns c = simp (c .first .ensures, c .before .name-size .ensures, c .before .before .rest .ensures)
+returns c = simp (c .first .ensures, c .before .before .before .pre, c .before .rest .ensures)
 
 pub name-text-spec : {M : Type 1} → statement M
-name-text-spec = tie.close (tie.spec (λ c κs. search needs) (λ c κs. search needs) (λ c κs. search needs) returns)
+name-text-spec = tie.close (tie.spec (λ c κs. search needs) (λ c κs. search needs) returns)
