@@ -42,6 +42,19 @@ pub fn value_of(digits: &[u8]) -> u64
     value
 }
 
+// The digits of a number: those of its tenth, then the last.
+fn put_digits(n: u64, into: &mut [u8], at: usize) -> usize
+    requires { ⌜ at + length (decimalText n) ≤ length (now into) ⌝ }
+    ensures { λ r. ⌜ buffer (now (into .exit)) r ≡ append (buffer (now (into .entry)) at) (decimalText n) ⌝ }
+{
+    if n < 10 {
+        return buffer::put_byte(b'0' + (n as u8), into, at);
+    }
+    let end = put_digits(n / 10, into, at);
+    buffer::put_byte(b'0' + ((n % 10) as u8), into, end)
+}
+
+// A number's decimal. Most numbers that are shown have one digit, and that takes no call.
 pub fn put_decimal(n: u64, into: &mut [u8], at: usize) -> usize
     requires { ⌜ at + length (decimalText n) ≤ length (now into) ⌝ }
     ensures { λ r. ⌜ buffer (now (into .exit)) r ≡ append (buffer (now (into .entry)) at) (decimalText n) ⌝ }
@@ -49,6 +62,5 @@ pub fn put_decimal(n: u64, into: &mut [u8], at: usize) -> usize
     if n < 10 {
         return buffer::put_byte(b'0' + (n as u8), into, at);
     }
-    let end = put_decimal(n / 10, into, at);
-    buffer::put_byte(b'0' + ((n % 10) as u8), into, end)
+    put_digits(n, into, at)
 }
