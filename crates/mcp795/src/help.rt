@@ -1,4 +1,5 @@
-// What --help tells, in five pieces. A text is written as it stands.
+// What --help tells, in six pieces, and --version. A text is written as it stands. Each function answers whether standard
+// output took it.
 
 fn print_use() -> bool {
     io::write_all(
@@ -7,8 +8,22 @@ fn print_use() -> bool {
 
 Answers each tape as an MCP795XX clock chip would. A TAPE is a file, or - for
 standard input. With no TAPE, standard input is the tape. Each tape starts
-without a part. After -- every argument is a TAPE, whatever it begins with.
+without a part.
 
+    -h, --help  writes this text
+    --version   writes the version, and the kit that it was proved with
+    --          after it every argument is a TAPE, whatever it begins with
+
+The first option is obeyed, wherever it stands before --, and no tape is
+answered. Where - is named twice, the second gets what is left of the input.
+",
+    )
+}
+
+fn print_form() -> bool {
+    io::write_all(
+        libc::STDOUT_FILENO,
+        b"
 A tape has a line for each act:
 
     op=NAME arg=N
@@ -77,18 +92,45 @@ fn print_problems() -> bool {
     io::write_all(
         libc::STDOUT_FILENO,
         b"
-A tape that cannot be opened or read is told on standard error, with its name
-and the reason, and the next one is answered. Where standard output cannot be
-written, the program stops. The exit status is 0 all the same: look at standard
-error.
+What cannot be read, written or understood is told on standard error, a line for
+each:
+
+    mcp795: WHAT: REASON
+
+A tape that cannot be read, or not to its end, is left there, and the next one
+is answered. Where standard output cannot be written, the program stops. An
+option that is not known stops it before the first tape.
+
+The exit status of mcp795 is always 0. That of ./run, the script that starts it,
+is 1 where anything was told or the program could not be built, and else 0; it
+is 128 and the signal's number where a signal ended the program.
 ",
     )
 }
 
-pub fn print() {
-    print_use();
-    print_acts();
-    print_answers();
-    print_refusals();
-    print_problems();
+pub fn print() -> bool {
+    if !print_use() {
+        return false;
+    }
+    if !print_form() {
+        return false;
+    }
+    if !print_acts() {
+        return false;
+    }
+    if !print_answers() {
+        return false;
+    }
+    if !print_refusals() {
+        return false;
+    }
+    print_problems()
+}
+
+// The version of this copy, and the kit as `rt version` names it: .ci/run compares the two.
+pub fn print_version() -> bool {
+    io::write_all(
+        libc::STDOUT_FILENO,
+        b"mcp795 1.0, proved with rattle-kit-5b-plain logic 097e4c862dff5811\n",
+    )
 }

@@ -14,8 +14,11 @@ abbrev μ-loop : tie.MeasureT-loop
 loop-holds : tie.Need-loop-holds Inv-loop μ-loop
 loop-holds c = tt
 
-option-kind-requires : tie.Need-option-kind-requires Inv-loop μ-loop
-option-kind-requires c κs = tt
+ends-options-requires : tie.Need-ends-options-requires Inv-loop μ-loop
+ends-options-requires c κs = tt
+
+is-option-requires : tie.Need-is-option-requires Inv-loop μ-loop
+is-option-requires c κs = tt
 
 returns : tie.Need-returns Inv-loop μ-loop
 returns c = tt
@@ -33,4 +36,4 @@ pub first-option-spec : {M : Type 1} → statement M
 first-option-spec =
     tie.close
     (tie.spec
-    Inv-loop μ-loop loop-holds option-kind-requires returns returns-2 (λ c. omega arith) (λ c. omega arith) loop-again returns-3)
+    Inv-loop μ-loop loop-holds ends-options-requires returns is-option-requires returns-2 (λ c. omega arith) (λ c. omega arith) loop-again returns-3)
