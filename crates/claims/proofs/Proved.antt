@@ -1,0 +1,43 @@
+-- The three demands, proved by citing: the table's theorem, the functions' proofs, demand 3 and the law of every feeding.
+-- Assumes nothing.
+use mathlib.Core.Path.{sym, _∙_}
+use borrow.Author.Tests.{ne-eqb}
+use Rattle.refusals.proofs.TableLaws.{exactly}
+use Rattle.acts.proofs.OutcomeLaws.{answered-by-table, refused-same}
+use Rattle.run.proofs.DemandThree.{demand-three}
+use Rattle.run.proofs.WrongLaws.{enableless-fails, deaf-fails, empty-fails, maskless-fails, lockless-fails}
+use Rattle.tape.proofs.FeedLaws.{any-feeding}
+use Rattle.acts.proofs.perform.Met as perform
+use Rattle.run.proofs.run.Met as run
+use Rattle.tape.proofs.chunk.feed.Met as feed
+use Rattle.tape.proofs.chunk.finish.Met as finish
+use Rattle.claims.specs.Demands.{Total, Exact, Accountable, Demands}
+
+total : Total
+total =
+    record {
+      table =
+          λ part act arg w k. (
+            λ e. exactly part act arg (w .device) _ _ k .0 (sym (answered-by-table part act arg w) ∙ e),
+            λ t. answered-by-table part act arg w ∙ exactly part act arg (w .device) _ _ k .1 t,
+          );
+      unchanged = λ part act arg w n. refused-same part act arg w (ne-eqb _ 0 n);
+    }
+
+exact : Exact
+exact = record { perform = perform.met; run = run.met; feed = feed.met; finish = finish.met }
+
+accountable : Accountable
+accountable =
+    record {
+      acts = demand-three;
+      tapes = any-feeding;
+      enableless = enableless-fails;
+      deaf = deaf-fails;
+      empty = empty-fails;
+      maskless = maskless-fails;
+      lockless = lockless-fails;
+    }
+
+pub demands : Demands
+demands = record { total = total; exact = exact; accountable = accountable }
