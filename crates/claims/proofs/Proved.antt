@@ -6,7 +6,7 @@ use Rattle.refusals.proofs.TableLaws.{exactly}
 use Rattle.acts.proofs.OutcomeLaws.{answered-by-table, refused-same}
 use Rattle.run.proofs.DemandThree.{demand-three}
 use Rattle.run.proofs.WrongLaws.{enableless-fails, deaf-fails, empty-fails, maskless-fails, lockless-fails}
-use Rattle.tape.proofs.FeedLaws.{any-feeding}
+use Rattle.feeding.proofs.FeedLaws.{any-feeding}
 use Rattle.acts.proofs.perform.Met as perform
 use Rattle.run.proofs.run.Met as run
 use Rattle.tape.proofs.chunk.feed.Met as feed

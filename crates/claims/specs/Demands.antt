@@ -11,7 +11,7 @@ use Rattle.refusals.specs.Rows.{TableGives}
 use Rattle.acts.specs.Act.{performed, refused}
 use Rattle.run.specs.Claim.{ourChip, DemandThree}
 use Rattle.run.specs.Wrong.{enablelessChip, deafChip, emptyChip, masklessChip, locklessChip}
-use Rattle.tape.specs.Feeding.{AnyFeeding}
+use Rattle.feeding.specs.Feeding.{AnyFeeding}
 use Rattle.acts.proofs.perform.Statement as perform
 use Rattle.run.proofs.run.Statement as run
 use Rattle.tape.proofs.chunk.feed.Statement as feed

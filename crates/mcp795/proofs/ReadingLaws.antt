@@ -10,8 +10,8 @@ use lib.Seq.{take-add, take-all, drop-cons}
 use Rattle.text.specs.Buffer.{Buffer, roomIn}
 use Rattle.lines.specs.Print.{answerRoom}
 use Rattle.tape.specs.Tape.{Loan, Given, feedInto}
-use Rattle.tape.specs.Feeding.{HasFed}
-use Rattle.tape.proofs.FeedLaws.{has-more, has-some, feed-count}
+use Rattle.feeding.specs.Feeding.{HasFed}
+use Rattle.feeding.proofs.FeedLaws.{has-more, has-some, feed-count}
 use Rattle.mcp795.specs.Reading.{IsFed, FeedsRead}
 
 -- the first bytes of a chunk have been fed, behind any that were fed before

@@ -7,7 +7,7 @@ use mathlib.Core.Bool.{Bool, true}
 use mathlib.Core.List.{List, _++_}
 use lib.ListN.{take}
 use Rattle.tape.specs.Tape.{Loan}
-use Rattle.tape.specs.Feeding.{HasFed}
+use Rattle.feeding.specs.Feeding.{HasFed}
 
 -- some bytes of a tape have been fed, and no others
 abbrev pub IsFed : Loan → Type 0

@@ -7,7 +7,7 @@ ghost use mathlib.Core.Bool.{false};
 ghost use lib.ListN.{length};
 ghost use Rattle.lines.specs.Print.{answerRoom};
 ghost use Rattle.tape.specs.Tape.{loan, startTape};
-ghost use Rattle.tape.specs.Feeding.{Begins};
+ghost use Rattle.feeding.specs.Feeding.{Begins};
 ghost use Rattle.mcp795.specs.Reading.{IsFed, FeedsAll, FeedsRead};
 
 // A tape between two reads: how far it has come, whether to read on, and whether standard output takes answers.

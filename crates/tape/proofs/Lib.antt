@@ -1,6 +1,1 @@
 pub mod TapeLaws
-pub mod WholeLaws
-pub mod ToldLaws
-pub mod LedgerLaws
-pub mod FeedLaws
-pub mod WholeCaseLaws

@@ -1,5 +1,1 @@
 pub mod Tape
-pub mod Told
-pub mod Steps
-pub mod Feeding
-pub mod WholeCase

@@ -10,8 +10,8 @@ use borrow.Author.Needs.{needs}
 use borrow.Author.Tests.{not-false}
 use Rattle.tape.specs.declared.Tape.{Tape}
 use Rattle.tape.specs.Tape.{loan, startTape}
-use Rattle.tape.specs.Feeding.{HasFed}
-use Rattle.tape.proofs.FeedLaws.{has-start}
+use Rattle.feeding.specs.Feeding.{HasFed}
+use Rattle.feeding.proofs.FeedLaws.{has-start}
 use Rattle.mcp795.specs.Reading.{IsFed}
 use Rattle.mcp795.proofs.ReadingLaws.{read-on}
 use Rattle.mcp795.proofs.run.read_all.Statement.{statement}

@@ -3,7 +3,7 @@
 use native.Mathlib.Omega.{arith}
 use mathlib.Core.Path.{refl}
 use borrow.Author.Needs.{needs}
-use Rattle.tape.proofs.FeedLaws.{begins-with}
+use Rattle.feeding.proofs.FeedLaws.{begins-with}
 use Rattle.mcp795.proofs.run.run_tape.Statement.{statement}
 use Rattle.mcp795.proofs.run.run_tape.Tie as tie
 

@@ -21,8 +21,8 @@ use Rattle.lines.specs.Line.{nameSize, digitsText, inForm, nameOf}
 use Rattle.lines.specs.Request.{badLine, requestOf}
 use Rattle.lines.specs.Print.{fieldsText, answerChars, answerLine}
 use Rattle.answers.specs.Answer.{lineAnswer, answerText}
 use Rattle.tape.specs.Tape.{linesFrom, answersTo, tapeAnswers}
-use Rattle.tape.specs.WholeCase.{WholeCase}
+use Rattle.feeding.specs.WholeCase.{WholeCase}
 
 pub whole-case : WholeCase
 unfolding WholeCase tapeAnswers linesFrom answersTo lineAnswer answerText fieldsText answerChars answerLine badLine requestOf nameSize digitsText inForm nameOf chosen agreed leading valueFrom textWithin decimalText performed refusalOf outOfRange clockOut frameOut cycleOut powerOut bitOutside every fresh afterSelect afterByte nextReply afterEnd carried cycleAfter welAfter waitedBy tick cycleTick cycleDevice clockwork changed irqLow wdoLow oscillatorTick watchdogTick calendarTick storeUnder

@@ -19,9 +19,9 @@ use Rattle.lines.specs.Request.{requestOf}
 use Rattle.text.specs.Bytes.{newline}
 use Rattle.lines.specs.Print.{answerRoom}
 use Rattle.answers.specs.Answer.{Setup, setup, LineAnswer, refusedLine, requestAnswer, lineAnswer, answerText}
 use Rattle.tape.specs.Tape.{lastLine, linesFrom, answersTo, tapeAnswers, FedByLines, emptySetup, State, state, head, Fed, fedTo, fedByte, ahead, fed, finished, answersFrom, takenWithin}
-use Rattle.tape.specs.Steps.{setupAfter}
+use Rattle.feeding.specs.Steps.{setupAfter}
 use Rattle.tape.proofs.TapeLaws.{ahead-join, head-join, head-answers}
 
 -- what lines answer, and what is left after them
 abbrev linesFed : Setup → List (List ℕ) → Fed

@@ -11,8 +11,8 @@ use Rattle.ledger.specs.State.{start}
 use Rattle.ledger.specs.Steps.{ledgerRun}
 use Rattle.run.specs.Claim.{Accounted}
 use Rattle.answers.specs.Answer.{Setup, setup, lineAnswer}
 use Rattle.tape.specs.Tape.{state, fed, finished, linesFrom, tapeAnswers}
-use Rattle.tape.specs.Told.{Told, linesTold}
+use Rattle.feeding.specs.Told.{Told, linesTold}
 
 -- what is left at the end of a tape of these bytes
 abbrev pub leftAfter : World → List ℕ → Setup

@@ -10,8 +10,8 @@ use lib.ListN.{length, take, drop}
 use Rattle.text.specs.Buffer.{Buffer, roomIn}
 use Rattle.lines.specs.Print.{answerRoom}
 use Rattle.answers.specs.Answer.{setupIn}
 use Rattle.tape.specs.Tape.{emptySetup, tapeAnswers, state, fed, Loan, heldIn, stateIn, isTape, startTape, Given, feedInto, finishInto}
-use Rattle.tape.specs.Steps.{AccountsFor, toldBy}
+use Rattle.feeding.specs.Steps.{AccountsFor, toldBy}
 
 -- a call of `feed`: how many bytes of what is left it is offered, and the buffer for its answers
 pub record Offer : Type 0 where

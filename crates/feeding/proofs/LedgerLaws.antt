@@ -26,11 +26,11 @@ use Rattle.lines.specs.declared.Out.the-variants.{Value, Z}
 use Rattle.lines.specs.Print.{outOf}
 use Rattle.lines.specs.Read.{shownOr, numberRead}
 use Rattle.answers.specs.Answer.{Setup, setup, LineAnswer, answer, refusedLine, outcomeAnswer, freshSetup, requestAnswer, lineAnswer}
 use Rattle.tape.specs.Tape.{linesFrom, tapeAnswers, emptySetup}
-use Rattle.tape.specs.Told.{Told, tells, lineTold, stepsTold, partTold, linesTold}
-use Rattle.tape.specs.Steps.{setupAfter, toldBy, AccountsFor, BytesAccounted}
-use Rattle.tape.proofs.WholeLaws.{setup-lines, before-any}
-use Rattle.tape.proofs.ToldLaws.{charsOf, chars-number, chars-out, answerLines, answers-cut}
+use Rattle.feeding.specs.Told.{Told, tells, lineTold, stepsTold, partTold, linesTold}
+use Rattle.feeding.specs.Steps.{setupAfter, toldBy, AccountsFor, BytesAccounted}
+use Rattle.feeding.proofs.WholeLaws.{setup-lines, before-any}
+use Rattle.feeding.proofs.ToldLaws.{charsOf, chars-number, chars-out, answerLines, answers-cut}
 
 -- the acts that lines name
 abbrev inputOf : Request → List Input

@@ -21,13 +21,13 @@ use Rattle.lines.specs.Print.{answerRoom}
 use Rattle.answers.specs.Answer.{ready, eepromRoom, eepromBytes, idBytes, setupIn}
 use Rattle.answers.proofs.HeldLaws.{Sound, line-sound, held-setup}
 use Rattle.answers.proofs.BoundLaws.{SetupValid, answer-valid, answer-room}
 use Rattle.tape.specs.Tape.{State, state, head, headLimit, Fed, fedTo, ended, fedByte, ahead, fed, finished, ChunksJoin, FedByLines, takenWithin, putInto, takenFrom, Loan, loan, heldIn, stateIn, lending, isTape, startTape, Given, gives, feedInto, finishInto, tapeAnswers, emptySetup}
 use Rattle.tape.specs.declared.Tape.{Tape}
-use Rattle.tape.specs.Steps.{AccountsFor, toldBy, leftAfter, BytesAccounted}
-use Rattle.tape.specs.Feeding.{Offer, wrote, Course, courseOf, lastCall, printed, GetsOn, AllGetOn, Begins, AnyFeeding, HasFed}
+use Rattle.feeding.specs.Steps.{AccountsFor, toldBy, leftAfter, BytesAccounted}
+use Rattle.feeding.specs.Feeding.{Offer, wrote, Course, courseOf, lastCall, printed, GetsOn, AllGetOn, Begins, AnyFeeding, HasFed}
 use Rattle.tape.proofs.TapeLaws.{fed-join, ahead-join, TapeFacts, tape-facts, facts-tape, tape-sound}
-use Rattle.tape.proofs.WholeLaws.{toEnd, tape-whole, taken-within, taken-some}
-use Rattle.tape.proofs.LedgerLaws.{bytes-accounted}
+use Rattle.feeding.proofs.WholeLaws.{toEnd, tape-whole, taken-within, taken-some}
+use Rattle.feeding.proofs.LedgerLaws.{bytes-accounted}
 
 -- a state that a tape comes to: its setup is sound and its chip valid, and no more is kept of a line than tells that it is too long
 pub record Fine (s : State) : Type 0 where
