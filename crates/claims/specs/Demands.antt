@@ -49,6 +49,7 @@ pub record Accountable : Type 0 where
   pub maskless : ¬ DemandThree masklessChip
   pub lockless : ¬ DemandThree locklessChip
 
+-- R12. The three together.
 pub record Demands : Type 2 where
   pub total : Total
   pub exact : Exact

@@ -13,7 +13,7 @@ use Rattle.feeding.specs.Feeding.{HasFed}
 abbrev pub IsFed : Loan → Type 0
 IsFed l = (bytes : List ℕ) × HasFed l bytes
 
--- Where standard output takes the answers, a chunk has been fed whole, behind what was fed before.
+-- R11. Where standard output takes the answers, a chunk has been fed whole, behind what was fed before.
 abbrev pub FeedsAll : Loan → List ℕ → Bool → Loan → Type 0
 FeedsAll l chunk taken l′ = (bytes : List ℕ) → HasFed l bytes → taken ≡ true → HasFed l′ (bytes ++ chunk)
 

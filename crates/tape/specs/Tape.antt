@@ -122,7 +122,7 @@ takenFrom s chunk o =
     let k : ℕ = takenWithin (roomIn o) s chunk in
     putInto o k (fed s (take k chunk))
 
--- all that a call may change beside the output: the code's tape, and the lent bytes of a line, of the EEPROM and of the ID
+-- R10. All that a call may change beside the output: the code's tape, and the lent bytes of a line, of the EEPROM and of the ID
 pub record Loan : Type 0 where
   pub tape : Tape
   pub line : List ℕ
