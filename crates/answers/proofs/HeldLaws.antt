@@ -7,15 +7,14 @@ use mathlib.Core.List.{List}
 use Prim.Native.Nat.{ℕ, _≤_}
 use native.Mathlib.Omega.{arith}
 use lib.Dec.{eqb}
-use lib.ListN.{length, replicate, length-replicate}
+use lib.ListN.{length, length-replicate}
 use lib.Seq.{length-take-le}
-use Rattle.base.specs.Words.{over}
 use Rattle.base.proofs.OverLaws.{over-over, take-over}
 use Rattle.base.proofs.Tests.{by-cases, yes, no, pick-case, pick-when}
 use Rattle.record.specs.Part.{isPart, sizeOf, idSize}
 use Rattle.record.proofs.PartLaws.{part-cases, size-most}
 use Rattle.record.specs.declared.Act.{Act}
-use Rattle.record.specs.World.{World, world}
+use Rattle.record.specs.World.{world}
 use Rattle.refusals.proofs.RangeLaws.{in-range}
 use Rattle.refusals.proofs.TableLaws.{setup-passed}
 use Rattle.acts.specs.Act.{performed}

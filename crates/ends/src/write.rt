@@ -15,7 +15,6 @@ use record::stages;
 ghost use mathlib.Core.Path.{_≡_};
 ghost use Prim.Native.Nat.{_+_};
 ghost use Rattle.ends.specs.Write.{firstProtected, pageProtected, isOpen, isWrite, dataCame, allowed, carried, writingTarget, secondTarget, targetAt, cycleAfter, latches, welAfter};
-ghost use Rattle.record.specs.Stages.{eepromPointer};
 
 // The first protected address: the upper quarter, the upper half, or all of the EEPROM.
 fn first_protected(top: EepromAddress, p: Protection) -> u16

@@ -3,25 +3,24 @@
 -- Assumes nothing.
 use mathlib.Core.Path.{_≡_, refl, sym, ap, subst, _∙_}
 use mathlib.Core.Bool.{false, _&&_, true≢false}
-use mathlib.Core.List.{List, [], _∷_, _++_, append-nil, append-assoc}
+use mathlib.Core.List.{List, [], _∷_, _++_, append-assoc}
 use Prim.Native.Nat.{ℕ, zero, suc, _+_, _-_, _<_, _≤_}
 use native.Mathlib.Omega.{arith}
 use borrow.Author.Tests.{le-leb, ltb-false}
-use lib.Dec.{ltb, leb, eqb}
+use lib.Dec.{ltb, eqb}
 use lib.ListN.{length, take, drop, length-append, length-take, length-drop, take-append-drop}
 use lib.Seq.{take-at, take-length, drop-at, take-take, length-take-le, sets-eq}
-use Rattle.base.specs.Words.{pick, over}
 use Rattle.base.proofs.OverLaws.{take-over, length-over}
-use Rattle.base.proofs.Tests.{by-cases, yes, no, pick-case, pick-when, both-true}
+use Rattle.base.proofs.Tests.{yes, pick-case, pick-when, both-true}
 use Rattle.record.specs.Part.{idSize}
 use Rattle.record.proofs.PartLaws.{size-most}
 use Rattle.text.specs.Bytes.{newline}
-use Rattle.text.specs.Buffer.{Buffer, buffer, append, roomIn}
+use Rattle.text.specs.Buffer.{Buffer, append, roomIn}
 use Rattle.lines.specs.Print.{answerRoom}
 use Rattle.answers.specs.Answer.{ready, eepromRoom, eepromBytes, idBytes, setupIn}
 use Rattle.answers.proofs.HeldLaws.{Sound, line-sound, held-setup}
 use Rattle.answers.proofs.BoundLaws.{SetupValid, answer-valid, answer-room}
-use Rattle.tape.specs.Tape.{State, state, head, headLimit, Fed, fedTo, ended, fedByte, ahead, fed, finished, ChunksJoin, FedByLines, takenWithin, putInto, takenFrom, Loan, loan, heldIn, stateIn, lending, isTape, startTape, Given, gives, feedInto, finishInto, tapeAnswers, emptySetup}
+use Rattle.tape.specs.Tape.{State, state, headLimit, Fed, fedByte, ahead, fed, finished, ChunksJoin, FedByLines, takenWithin, putInto, takenFrom, Loan, loan, heldIn, stateIn, lending, isTape, startTape, Given, gives, feedInto, finishInto, tapeAnswers, emptySetup}
 use Rattle.tape.specs.declared.Tape.{Tape}
 use Rattle.feeding.specs.Steps.{AccountsFor, toldBy, leftAfter, BytesAccounted}
 use Rattle.feeding.specs.Feeding.{Offer, wrote, Course, courseOf, lastCall, printed, GetsOn, AllGetOn, Begins, AnyFeeding, HasFed}

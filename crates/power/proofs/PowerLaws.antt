@@ -28,7 +28,7 @@ use Rattle.record.specs.Part.{bootsOf}
 use Rattle.record.specs.Registers.{vbaten, secondsAt, watchdogAt}
 use Rattle.record.specs.Setters.{withWatchdog, withDelay, withPulse, withPower}
 use Rattle.record.specs.Stored.{storedSet, storedCount, storePage}
-use Rattle.record.specs.World.{World, Bytes, Sized}
+use Rattle.record.specs.World.{World, Sized}
 use Rattle.record.proofs.PeriodLaws.{period-least}
 use Rattle.record.proofs.WorldLaws.{sized-by, replicate-bytes, eeprom-case, id-case}
 use Rattle.refusals.specs.InRange.{InRange}

@@ -3,7 +3,6 @@
 use mathlib.Core.Path.{_∙_}
 use borrow.Author.Needs.{needs}
 use Rattle.text.specs.Buffer.{buffer}
-use Rattle.answers.specs.Answer.{lineIn}
 use Rattle.answers.proofs.AnswerLaws.{told-shown}
 use Rattle.answers.proofs.told.Statement.{statement}
 use Rattle.answers.proofs.told.Tie as tie

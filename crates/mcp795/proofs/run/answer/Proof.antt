@@ -1,7 +1,7 @@
 -- `mcp795::run::answer`: each turn feeds some of what is left of the chunk, so that it is fed whole.
 -- Assumes nothing.
 use native.Mathlib.Omega.{arith}
-use mathlib.Core.Path.{_≡_, refl, ap, _∙_}
+use mathlib.Core.Path.{_≡_, refl, _∙_}
 use mathlib.Core.Bool.{false≢true}
 use mathlib.Core.List.{List}
 use Rattle.text.specs.Buffer.{buffer}

@@ -13,7 +13,7 @@ use Rattle.answers.proofs.AnswerLaws.{shown-held, shown-written}
 use Rattle.answers.proofs.HeldLaws.{onward-start, onward-line}
 use Rattle.tape.specs.declared.Feed.{Feed}
 use Rattle.tape.specs.Tape.{state, loan, heldIn, stateIn, givenBy}
-use Rattle.tape.proofs.TapeLaws.{TapeFacts, tape-facts, tape-sound, lent-after, lent-same, given, finish-none, finish-some}
+use Rattle.tape.proofs.TapeLaws.{tape-facts, tape-sound, lent-after, lent-same, given, finish-none, finish-some}
 use Rattle.tape.proofs.chunk.finish_line.Statement.{statement}
 use Rattle.tape.proofs.chunk.finish_line.Tie as tie
 
