@@ -18,11 +18,14 @@ use Rattle.record.specs.declared.Act.{Act}
 use Rattle.record.specs.declared.Device.{Device}
 use Rattle.record.specs.Part.{isPart, sizeOf, idSize}
 use Rattle.record.specs.Fresh.{fresh}
-use Rattle.refusals.specs.Refusal.{wrongLength}
+use Rattle.refusals.specs.Refusal.{wrongLength, setupRefusal}
+use Rattle.refusals.proofs.RangeLaws.{fresh-in-range}
+use Rattle.refusals.proofs.TableLaws.{setup-passes}
 use Rattle.record.specs.Numbers.{actOf}
 use Rattle.record.specs.World.{World, world, freshWorld}
 use Rattle.acts.specs.declared.Answer.{Answer}
 use Rattle.acts.specs.Act.{Outcome, performed, outcomeOf}
+use Rattle.acts.proofs.SuitedLaws.{performed-suited}
 use Rattle.ledger.specs.State.{Step, start}
 use Rattle.ledger.specs.Steps.{ledgerRun}
 use Rattle.run.specs.declared.Ran.{Ran}
@@ -180,6 +183,19 @@ accepted part ee id z =
       eeprom = eqb-true ee (sizeOf part) (not-false (eqb ee (sizeOf part)) (neither-left (not (eqb ee (sizeOf part))) (not (eqb id idSize)) (q .0)));
       id = eqb-true id idSize (not-false (eqb id idSize) (neither-right (not (eqb ee (sizeOf part))) (not (eqb id idSize)) (q .0)));
     }
+
+-- a fresh chip suits a run that is not refused, and so does what an act leaves of a chip that does
+pub suits-start : (part : ℕ) (d : Device) (ee id : ℕ) → refusesRun part ee id ≡ 0 → d ≡ fresh → setupRefusal part d ee id ≡ 0
+suits-start part d ee id z f =
+    let a = accepted part ee id z in
+    ap (λ (x : Device). setupRefusal part x ee id) f
+    ∙ setup-passes part fresh ee id (record { known = a .known; eeprom = a .eeprom; ids = a .id; ranged = fresh-in-range part (a .known) })
+
+pub suits-turn :
+    (part : ℕ) (act : Act) (arg : ℕ) (w : World) (a : Answer) (ee id : List ℕ) → outcomeOf a ee id ≡ performed part act arg w
+    → setupRefusal part (w .device) (length (w .eeprom)) (length (w .id)) ≡ 0 → setupRefusal part (a .device) (length ee) (length id) ≡ 0
+suits-turn part act arg w a ee id e s =
+    ap (λ (o : Outcome). setupRefusal part (o .after .device) (length (o .after .eeprom)) (length (o .after .id))) e ∙ performed-suited part act arg w s
 
 -- a refused run
 pub run-refused :

@@ -3,7 +3,9 @@ use record::Act;
 use record::Device;
 ghost use mathlib.Core.Path.{_≡_};
 ghost use Prim.Native.Nat.{min};
+ghost use lib.ListN.{length};
 ghost use Rattle.record.specs.World.{world};
+ghost use Rattle.refusals.specs.Refusal.{setupRefusal};
 ghost use Rattle.run.specs.declared.Ran.{Ran};
 ghost use Rattle.run.specs.Claim.{usedBy};
 ghost use Rattle.run.specs.Run.{refusesRun, inputsIn, Performed, Run};
@@ -45,7 +47,8 @@ fn ticks_of(act: Act, count: u64) -> u64
     }
 }
 
-// The acts on a chip with its memories, up to the first for which a slice has no room or whose code names no act.
+// The acts on a chip with its memories, up to the first for which a slice has no room or whose code names no act. The record is in range, and stays
+// so: no act tests that again.
 fn perform_all(
     part: u64,
     device: Device,
@@ -56,6 +59,7 @@ fn perform_all(
     eeprom: &mut [u8],
     id: &mut [u8],
 ) -> Ran
+    requires { ⌜ setupRefusal part device (length (now eeprom)) (length (now id)) ≡ 0 ⌝ }
     ensures { λ r. ⌜ (r .number ≡ 0) × Performed part (inputsIn (now (codes .entry)) (now (args .entry)) (now (answers .entry)) (now (used .entry))) (now (answers .entry)) (now (answers .exit)) (now (used .entry)) (now (used .exit)) (world device (now (eeprom .entry)) (now (id .entry))) (world (r .device) (now (eeprom .exit)) (now (id .exit))) (r .count) ⌝ }
 {
     let most = least(
@@ -75,7 +79,7 @@ fn perform_all(
         }
         let act = record::number::act_of(code);
         let arg = args[i];
-        let a = acts::perform(part, act, arg, chip, eeprom, id);
+        let a = acts::perform_in_range(part, act, arg, chip, eeprom, id);
         answers[i] = a.number;
         used[i] = ticks_of(act, a.count);
         chip = a.device;

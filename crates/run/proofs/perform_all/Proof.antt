@@ -6,8 +6,9 @@ use native.Mathlib.Omega.{arith}
 use borrow.Author.Needs.{needs}
 use lib.ListN.{length, length-set}
 use Rattle.record.specs.World.{world}
+use Rattle.refusals.specs.Refusal.{setupRefusal}
 use Rattle.run.specs.Run.{inputsIn}
-use Rattle.run.proofs.TurnLaws.{Left, inputsFrom, left-all, left-turn, left-none, inputs-none, inputs-end}
+use Rattle.run.proofs.TurnLaws.{Left, inputsFrom, left-all, left-turn, left-none, inputs-none, inputs-end, suits-turn}
 use Rattle.run.proofs.perform_all.Statement.{statement}
 use Rattle.run.proofs.perform_all.Tie as tie
 
@@ -20,12 +21,13 @@ Inv-loop part codes args answers₀ used₀ eeprom₀ id₀ most chip₀ i₀ an
     × (length eeprom ≡ length eeprom₀)
     × (length id ≡ length id₀)
     × Left part (inputsIn codes args answers₀ used₀) (inputsFrom i codes args room) answers₀ used₀ (world chip₀ eeprom₀ id₀) i answers used (world chip eeprom id)
+    × (setupRefusal part chip (length eeprom) (length id) ≡ 0)
 
 abbrev μ-loop : tie.MeasureT-loop
 μ-loop part codes args answers₀ used₀ eeprom₀ id₀ most chip₀ i₀ answers used eeprom id chip i = most - i
 
 loop-holds : tie.Need-loop-holds Inv-loop μ-loop
-loop-holds c = (omega arith, refl, refl, refl, refl, left-all _ _ _ _ _ _ _)
+loop-holds c = (omega arith, refl, refl, refl, refl, left-all _ _ _ _ _ _ _, c .before .before .before .before .before .before .before .before .before .pre)
 
 returns : tie.Need-returns Inv-loop μ-loop
 returns c =
@@ -43,13 +45,17 @@ loop-again c =
       omega arith,
       omega arith,
       left-turn _ _ _ _ _ (l .i) _ _ _ _ _ (world (l .chip) (l .eeprom) (l .id)) _ _ _ _ _ (omega arith) (omega arith) (omega arith) (omega arith) (omega arith) (omega arith)
-          (n .act-of .ensures) (p .perform .ensures) (c .before .ticks-of .ensures) (l .inv .5),
+          (n .act-of .ensures) (p .perform-in-range .ensures) (c .before .ticks-of .ensures) (l .inv .5),
+      suits-turn _ _ _ (world (l .chip) (l .eeprom) (l .id)) _ _ _ (p .perform-in-range .ensures) (l .inv .6),
     )
 
 returns-2 : tie.Need-returns-2 Inv-loop μ-loop
 returns-2 c =
     let l = c .before .loop in
     (refl, left-none _ _ _ _ _ _ _ _ _ _ (inputs-end (l .i) _ _ _ (omega arith)) (l .inv .5))
+
+perform-in-range-requires : tie.Need-perform-in-range-requires Inv-loop μ-loop
+perform-in-range-requires c κs = c .before .before .before .before .before .before .before .loop .inv .6
 
 mul-used : tie.Need-mul-used Inv-loop μ-loop
 mul-used c =
@@ -76,7 +82,7 @@ perform-all-spec =
     (λ c κs. search needs)
     (λ c. omega arith)
     (λ c. omega arith)
-    (λ c κs. search needs)
+    perform-in-range-requires
     (λ c. omega arith)
     (λ c κs. search needs)
     mul-used

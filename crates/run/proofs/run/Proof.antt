@@ -2,13 +2,23 @@
 -- Assumes nothing.
 use mathlib.Core.Path.{refl, sym, _∙_}
 use borrow.Author.Needs.{needs}
-use Rattle.run.proofs.TurnLaws.{run-refused, run-done}
+use Rattle.run.specs.Run.{refusesRun}
+use Rattle.run.proofs.TurnLaws.{run-refused, run-done, suits-start}
 use Rattle.run.proofs.run.Statement.{statement}
 use Rattle.run.proofs.run.Tie as tie
 
 returns : tie.Need-returns
 returns c =
     run-refused _ _ _ _ _ _ _ _ (c .if1 .taken) (c .before .refuses .ensures) refl (c .before .before .fresh-device .ensures)
+
+perform-all-requires : tie.Need-perform-all-requires
+perform-all-requires c κs =
+    let i = c .before .before .before .before .before .before in
+    let e = i .before .before .before .before in
+    let n = e .before .before in
+    suits-start _ _ _ _
+    ((λ j. refusesRun (n .before .before .before .before .before .before .before .before .before .args .part) (e .erase .kept .0 j) (i .erase2 .kept .0 j)) ∙ sym (n .before .refuses .ensures) ∙ n .if1 .left)
+    (n .before .before .fresh-device .ensures)
 
 returns-2 : tie.Need-returns-2
 returns-2 c =
@@ -28,7 +38,7 @@ run-spec =
     returns
     (λ c κs. search needs)
     (λ c κs. search needs)
-    (λ c κs. search needs)
+    perform-all-requires
     (λ c. search needs)
     (λ c. search needs)
     (λ c. search needs)
