@@ -20,7 +20,7 @@ use Rattle.lines.specs.Print.{answerRoom}
 use Rattle.answers.specs.Answer.{ready, eepromRoom, eepromBytes, idBytes, setupIn}
 use Rattle.answers.proofs.HeldLaws.{Sound, line-sound, held-setup}
 use Rattle.answers.proofs.BoundLaws.{SetupValid, answer-valid, answer-room}
-use Rattle.tape.specs.Tape.{State, state, headLimit, Fed, fedByte, ahead, fed, finished, ChunksJoin, FedByLines, takenWithin, putInto, takenFrom, Loan, loan, heldIn, stateIn, lending, isTape, startTape, Given, gives, feedInto, finishInto, tapeAnswers, emptySetup}
+use Rattle.tape.specs.Tape.{State, state, headLimit, Fed, fedByte, ahead, fed, finished, ChunksJoin, FedByLines, takenWithin, putInto, takenFrom, Loan, loan, heldIn, stateIn, lending, isTape, Given, gives, feedInto, finishInto, tapeAnswers, emptySetup}
 use Rattle.tape.specs.declared.Tape.{Tape}
 use Rattle.feeding.specs.Steps.{AccountsFor, toldBy, leftAfter, BytesAccounted}
 use Rattle.feeding.specs.Feeding.{Offer, wrote, Course, courseOf, lastCall, printed, GetsOn, AllGetOn, Begins, AnyFeeding, HasFed}
@@ -227,12 +227,26 @@ ends-by (x ∷ xs) l left g w h =
     ends-by xs (feedInto l (take (x .size) left) (x .into) .after) _ (o .good) (w .1) (omega (arith, less-left x l left g (w .0)))
 
 -- What a tape begins with is good: it has no part, so nothing is asked of its chip.
+begins-facts : (l : Loan) → Begins l → TapeFacts l
+unfolding ready
+begins-facts l b =
+    record {
+      headed = record { size = b .line; within = omega (arith, ap (λ (t : Tape). t .begun) (b .tape)) };
+      lent = record { eeprom = b .eeprom; id = b .id };
+      goes = ap (λ (t : Tape). ready (t .part) (t .device)) (b .tape);
+    }
+
 begins-good : (l : Loan) → Begins l → Good l
 begins-good l b =
-    let f = tape-facts l (b .fits) in
+    let f = begins-facts l b in
     record {
       facts = f;
-      fine = record { sound = tape-sound l f; valid = λ e. absurd (true≢false (sym (ap (λ (t : Tape). eqb (t .part) 0) (b .tape)) ∙ e)); short = simp length-take (omega arith) };
+      fine =
+          record {
+            sound = tape-sound l f;
+            valid = λ e. absurd (true≢false (sym (ap (λ (t : Tape). eqb (t .part) 0) (b .tape)) ∙ e));
+            short = simp length-take (omega arith);
+          };
     }
 
 begins-state : (l : Loan) → Begins l → stateIn l ≡ state emptySetup []
@@ -273,17 +287,9 @@ empty-fine = record { sound = record { goes = refl; eeprom = refl; id = refl }; 
 has-good : (l : Loan) (bytes : List ℕ) → HasFed l bytes → Good l
 has-good l bytes h = record { facts = tape-facts l (h .tape); fine = subst Fine (sym (h .reached)) (fed-fine bytes (state emptySetup []) empty-fine) }
 
-pub begins-with : (line ee id : List ℕ) → length line ≡ headLimit → length ee ≡ eepromRoom → length id ≡ idSize → Begins (loan startTape line ee id)
-unfolding ready
-begins-with line ee id l e i =
-    record {
-      tape = refl;
-      fits = facts-tape (loan startTape line ee id) (record { headed = record { size = l; within = omega arith }; lent = record { eeprom = e; id = i }; goes = refl });
-    }
-
 pub has-start : (l : Loan) → Begins l → HasFed l []
 unfolding fed
-has-start l b = record { tape = b .fits; reached = begins-state l b }
+has-start l b = record { tape = facts-tape l (begins-facts l b); reached = begins-state l b }
 
 pub has-more : (l : Loan) (bytes chunk : List ℕ) (o : Buffer) → HasFed l bytes → HasFed (feedInto l chunk o .after) (bytes ++ take (feedInto l chunk o .count) chunk)
 unfolding ChunksJoin

@@ -55,7 +55,9 @@ AllGetOn (x ∷ xs) = GetsOn x × AllGetOn xs
 -- what is lent to a tape before its first byte: the tape that `start` answers, and buffers of their sizes, whatever lies in them
 pub record Begins (l : Loan) : Type 0 where
   pub tape : l .tape ≡ startTape
-  pub fits : isTape l ≡ true
+  pub line : length (l .line) ≡ 65
+  pub eeprom : length (l .eeprom) ≡ 256
+  pub id : length (l .id) ≡ 16
 
 -- A tape of these bytes, fed by these calls, from what is lent at first.
 pub record FeedsWell (l : Loan) (bytes : List ℕ) (xs : List Offer) : Type 0 where
