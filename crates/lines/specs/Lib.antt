@@ -2,3 +2,4 @@ pub mod Line
 pub mod Request
 pub mod Print
 pub mod Read
+pub mod Shown

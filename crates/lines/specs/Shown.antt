@@ -1,0 +1,58 @@
+-- What lines ask for, and answers as text, with the bytes written out: a second statement beside the contracts, so that code and definition cannot
+-- go wrong together.
+-- Assumes nothing.
+use Prim.Native.String.{String}
+use mathlib.Core.Path.{_≡_, refl}
+use mathlib.Core.Bool.{true, false}
+use Rattle.record.specs.declared.Act.the-variants.{Select, Byte, End, Wait, Cut, Up}
+use Rattle.record.specs.declared.Reply.the-variants.{Driven, Off}
+use Rattle.text.specs.Bytes.{bytesOf, agreed, leading, chosen}
+use Rattle.text.specs.Decimal.{valueFrom, textWithin, decimalText}
+use Rattle.lines.specs.declared.Request.{Request}
+use Rattle.lines.specs.declared.Request.the-variants.{PartLine, ActLine, Bad}
+use Rattle.lines.specs.declared.Out.the-variants.{Value, Z}
+use Rattle.lines.specs.Line.{nameSize, digitsText, inForm, nameOf}
+use Rattle.lines.specs.Request.{badLine, requestOf}
+use Rattle.lines.specs.Print.{outOf, fieldsText, answerChars, answerLine}
+
+-- a line asks for this
+abbrev Asks : String → Request → Type 0
+Asks line r = requestOf (bytesOf line) ≡ r
+
+pub LinesShown : Type 0
+LinesShown =
+    -- T4. every name
+    Asks "op=part arg=2" (PartLine 2)
+    × Asks "op=select arg=0" (ActLine Select 0)
+    × Asks "op=byte arg=255" (ActLine Byte 255)
+    × Asks "op=end arg=7" (ActLine End 7)
+    × Asks "op=wait arg=200" (ActLine Wait 200)
+    × Asks "op=cut arg=3" (ActLine Cut 3)
+    × Asks "op=up arg=0" (ActLine Up 0)
+    × Asks "op=ups arg=0" Bad
+    -- T2. eight digits and nine, a 0 alone and in front
+    × Asks "op=wait arg=16777217" (ActLine Wait 16777217)
+    × Asks "op=wait arg=123456789" Bad
+    × Asks "op=byte arg=0" (ActLine Byte 0)
+    × Asks "op=byte arg=07" Bad
+    -- T1. what is not of the form: nothing, no name, no number, two blanks, more after the number, a capital
+    × Asks "" Bad
+    × Asks "op= arg=0" Bad
+    × Asks "op=up arg=" Bad
+    × Asks "op=up  arg=0" Bad
+    × Asks "op=up arg=0 " Bad
+    × Asks "op=Up arg=0" Bad
+    -- T8. an answer's text: a number, none, and the two levels
+    × (answerLine 0 (Value 164) true false ≡ bytesOf "no=0 out=164 irq=1 wdo=0\n")
+    × (answerLine 7 Z false true ≡ bytesOf "no=7 out=z irq=0 wdo=1\n")
+    -- T8, A6. what it shows: a byte's reply, none where SO is off, a wait's and a cut's count, none where it is refused
+    × (outOf 0 Byte (Driven 0) 0 ≡ Value 0)
+    × (outOf 0 Byte Off 0 ≡ Z)
+    × (outOf 0 Wait Off 164 ≡ Value 164)
+    × (outOf 0 Cut Off 0 ≡ Value 0)
+    × (outOf 0 End Off 0 ≡ Z)
+    × (outOf 3 Wait Off 0 ≡ Z)
+
+pub lines-shown : LinesShown
+unfolding LinesShown requestOf badLine nameSize digitsText inForm nameOf chosen agreed leading valueFrom answerLine answerChars fieldsText decimalText textWithin
+lines-shown = (refl, refl, refl, refl, refl, refl, refl, refl, refl, refl, refl, refl, refl, refl, refl, refl, refl, refl, refl, refl, refl, refl, refl, refl, refl, refl)
