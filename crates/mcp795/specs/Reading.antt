@@ -17,6 +17,6 @@ IsFed l = (bytes : List ℕ) × HasFed l bytes
 abbrev pub FeedsAll : Loan → List ℕ → Bool → Loan → Type 0
 FeedsAll l chunk taken l′ = (bytes : List ℕ) → HasFed l bytes → taken ≡ true → HasFed l′ (bytes ++ chunk)
 
--- Where there is more to read, the first bytes of what was read have been fed, as many as were read.
+-- Where there is more to read, first bytes of the input have been fed, behind what was fed before. How many were read no contract says.
 abbrev pub FeedsRead : Loan → List ℕ → Bool → Loan → Type 0
 FeedsRead l input more l′ = (bytes : List ℕ) → HasFed l bytes → more ≡ true → (n : ℕ) × HasFed l′ (bytes ++ take n input)
