@@ -29,7 +29,8 @@ A tape has a line for each act:
     op=NAME arg=N
 
 with one blank, nothing after N, and at most 64 characters. N has 1 to 8 digits
-and no needless zero. The first line names the part.
+and no needless zero. The first line names the part. A line ends at a newline;
+a carriage return is a character like any other, and makes its line bad.
 ",
     )
 }
