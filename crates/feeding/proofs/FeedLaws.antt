@@ -2,16 +2,16 @@
 -- from it again; one call feeds what it takes; and calls, one after another, feed the tape.
 -- Assumes nothing.
 use mathlib.Core.Path.{_≡_, refl, sym, ap, subst, _∙_}
-use mathlib.Core.Bool.{false, _&&_, true≢false}
+use mathlib.Core.Bool.{true, false, _&&_, true≢false}
 use mathlib.Core.List.{List, [], _∷_, _++_, append-assoc}
-use Prim.Native.Nat.{ℕ, zero, suc, _+_, _-_, _<_, _≤_}
+use Prim.Native.Nat.{ℕ, zero, suc, _+_, _*_, _-_, _<_, _≤_}
 use native.Mathlib.Omega.{arith}
-use borrow.Author.Tests.{le-leb, ltb-false}
-use lib.Dec.{ltb, eqb}
+use borrow.Author.Tests.{le-leb, leb-true, ltb-true, ltb-false}
+use lib.Dec.{ltb, leb, eqb}
 use lib.ListN.{length, take, drop, length-append, length-take, length-drop, take-append-drop}
 use lib.Seq.{take-at, take-length, drop-at, take-take, length-take-le, sets-eq}
 use Rattle.base.proofs.OverLaws.{take-over, length-over}
-use Rattle.base.proofs.Tests.{yes, pick-case, pick-when, both-true}
+use Rattle.base.proofs.Tests.{by-cases, yes, pick-case, pick-when, both-left, both-right, both-true}
 use Rattle.record.specs.Part.{idSize}
 use Rattle.record.proofs.PartLaws.{size-most}
 use Rattle.text.specs.Bytes.{newline}
@@ -23,7 +23,7 @@ use Rattle.answers.proofs.BoundLaws.{SetupValid, answer-valid, answer-room}
 use Rattle.tape.specs.Tape.{State, state, headLimit, Fed, fedByte, ahead, fed, finished, ChunksJoin, FedByLines, takenWithin, putInto, takenFrom, Loan, loan, heldIn, stateIn, lending, isTape, Given, gives, feedInto, finishInto, tapeAnswers, emptySetup}
 use Rattle.tape.specs.declared.Tape.{Tape}
 use Rattle.feeding.specs.Steps.{AccountsFor, toldBy, leftAfter, BytesAccounted}
-use Rattle.feeding.specs.Feeding.{Offer, wrote, Course, courseOf, lastCall, printed, GetsOn, AllGetOn, Begins, AnyFeeding, HasFed}
+use Rattle.feeding.specs.Feeding.{Offer, wrote, Course, courseOf, lastCall, printed, getsOn, gettingOn, Begins, AnyFeeding, HasFed}
 use Rattle.tape.proofs.TapeLaws.{fed-join, ahead-join, TapeFacts, tape-facts, facts-tape, tape-sound}
 use Rattle.feeding.proofs.WholeLaws.{toEnd, tape-whole, taken-within, taken-some}
 use Rattle.feeding.proofs.LedgerLaws.{bytes-accounted}
@@ -133,9 +133,10 @@ pub record Called (l : Loan) (chunk : List ℕ) (o : Buffer) (g : Given) : Type 
   pub good : Good (g .after)
   pub after : stateIn (g .after) ≡ fed (stateIn l) (take (g .count) chunk) .after
   pub wrote : wrote o (g .written) ≡ fed (stateIn l) (take (g .count) chunk) .answers
+  pub at : g .written .at ≡ o .at + length (fed (stateIn l) (take (g .count) chunk) .answers)
 
 one-call : (l : Loan) (chunk : List ℕ) (o : Buffer) → Good l → Called l chunk o (feedInto l chunk o)
-unfolding feedInto takenFrom
+unfolding feedInto takenFrom append
 one-call l chunk o g =
     let s = stateIn l in
     let k = takenWithin (roomIn o) s chunk in
@@ -146,6 +147,7 @@ one-call l chunk o g =
       good = laid-good l (fed s (take k chunk) .after) g f;
       after = laid-state l (fed s (take k chunk) .after) f;
       wrote = wrote-text o (fed s (take k chunk) .answers) (taken-room chunk (roomIn o) s (g .fine));
+      at = refl;
     })
 
 -- The last one feeds the end of the tape.
@@ -212,19 +214,24 @@ takes-some (suc n) o l b left g h r =
     (taken-some b (take n left) (roomIn o) s r)
 
 less-left :
-    (x : Offer) (l : Loan) (left : List ℕ) → Good l → GetsOn x
+    (x : Offer) (l : Loan) (left : List ℕ) → Good l → getsOn x ≡ true
     → length (drop (feedInto l (take (x .size) left) (x .into) .count) left) ≤ length left - 1
-less-left x l [] g w = let e : List ℕ = [] in omega (arith, length-drop (feedInto l (take (x .size) e) (x .into) .count) e)
-less-left x l (b ∷ left) g w =
-    omega (arith, length-drop (feedInto l (take (x .size) (b ∷ left)) (x .into) .count) (b ∷ left), takes-some (x .size) (x .into) l b left g (w .some) (w .room))
+less-left x l [] g t = let e : List ℕ = [] in omega (arith, length-drop (feedInto l (take (x .size) e) (x .into) .count) e)
+less-left x l (b ∷ left) g t =
+    omega (arith, length-drop (feedInto l (take (x .size) (b ∷ left)) (x .into) .count) (b ∷ left), takes-some (x .size) (x .into) l b left g (ltb-true 0 (x .size) (both-left (ltb 0 (x .size)) (leb answerRoom (roomIn (x .into))) t)) (leb-true answerRoom (roomIn (x .into)) (both-right (ltb 0 (x .size)) (leb answerRoom (roomIn (x .into))) t)))
 
-ends-by : (xs : List Offer) (l : Loan) (left : List ℕ) → Good l → AllGetOn xs → length left ≤ length xs → courseOf l left xs .left ≡ []
-unfolding courseOf
-ends-by [] l [] g w h = refl
-ends-by [] l (b ∷ left) g w h = absurd (omega arith)
-ends-by (x ∷ xs) l left g w h =
+ends-by : (xs : List Offer) (l : Loan) (left : List ℕ) → Good l → length left ≤ gettingOn xs → courseOf l left xs .left ≡ []
+unfolding courseOf gettingOn
+ends-by [] l [] g h = refl
+ends-by [] l (b ∷ left) g h = absurd (omega arith)
+ends-by (x ∷ xs) l left g h =
+    let k = feedInto l (take (x .size) left) (x .into) .count in
     let o = one-call l (take (x .size) left) (x .into) g in
-    ends-by xs (feedInto l (take (x .size) left) (x .into) .after) _ (o .good) (w .1) (omega (arith, less-left x l left g (w .0)))
+    let less : length (drop k left) ≤ gettingOn xs =
+    by-cases (getsOn x)
+    (λ t. omega (arith, less-left x l left g t, rw t at h))
+    (λ t. omega (arith, length-drop k left, rw t at h)) in
+    ends-by xs (feedInto l (take (x .size) left) (x .into) .after) _ (o .good) less
 
 -- What a tape begins with is good: it has no part, so nothing is asked of its chip.
 begins-facts : (l : Loan) → Begins l → TapeFacts l
@@ -301,6 +308,34 @@ has-more l bytes chunk o h =
       reached =
           c .after ∙ ap (λ (s : State). fed s k .after) (h .reached) ∙ sym (ap (λ (f : Fed). f .after) (fed-join (state emptySetup []) bytes k));
     }
+
+-- and the answers to what was fed grow by what it puts out
+pub put-more :
+    (l₀ l : Loan) (bytes x chunk : List ℕ) (o : Buffer) → HasFed l₀ bytes → HasFed l (bytes ++ x)
+    → o .at + length (fed (stateIn l₀) (x ++ take (feedInto l chunk o .count) chunk) .answers)
+    ≡ length (fed (stateIn l₀) x .answers) + feedInto l chunk o .written .at
+unfolding ChunksJoin
+put-more l₀ l bytes x chunk o h₀ h =
+    let s = stateIn l₀ in
+    let c = one-call l chunk o (has-good l (bytes ++ x) h) in
+    let k = take (feedInto l chunk o .count) chunk in
+    let e : fed s x .after ≡ stateIn l =
+    ap (λ (y : State). fed y x .after) (h₀ .reached) ∙ sym (ap (λ (f : Fed). f .after) (fed-join (state emptySetup []) bytes x)) ∙ sym (h .reached) in
+    let j = ap (λ (f : Fed). length (f .answers)) (fed-join s x k) ∙ length-append (fed s x .answers) (fed (fed s x .after) k .answers) in
+    let m = ap (λ (y : State). length (fed y k .answers)) e in
+    omega (arith, j, m, c .at)
+
+-- no line's answer is longer than its room, so the answers to so many bytes are no longer than so many rooms
+fed-room : (bytes : List ℕ) (s : State) → Fine s → length (fed s bytes .answers) ≤ answerRoom * length bytes
+unfolding fed
+fed-room [] s f = omega arith
+fed-room (b ∷ bytes) s f =
+    let a = fedByte b s .answers in
+    let r : length a ≤ answerRoom = pick-case (λ (g : Fed). length (g .answers) ≤ answerRoom) (eqb b newline) (answer-room (s .begun) (s .setup) (f .valid)) (omega arith) in
+    omega (arith, r, fed-room bytes (fedByte b s .after) (byte-fine b s f), length-append a (fed (fedByte b s .after) bytes .answers))
+
+pub put-room : (l : Loan) (bytes chunk : List ℕ) → HasFed l bytes → length (fed (stateIn l) chunk .answers) ≤ answerRoom * length chunk
+put-room l bytes chunk h = fed-room chunk (stateIn l) (has-good l bytes h .fine)
 
 pub has-some :
     (l : Loan) (bytes : List ℕ) (b : ℕ) (chunk : List ℕ) (o : Buffer) → HasFed l bytes → answerRoom ≤ roomIn o → 0 < feedInto l (b ∷ chunk) o .count

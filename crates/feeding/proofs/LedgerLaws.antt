@@ -24,13 +24,13 @@ use Rattle.lines.specs.Request.{requestOf}
 use Rattle.lines.specs.declared.Out.{Out}
 use Rattle.lines.specs.declared.Out.the-variants.{Value, Z}
 use Rattle.lines.specs.Print.{outOf}
-use Rattle.lines.specs.Read.{shownOr, numberRead}
-use Rattle.answers.specs.Answer.{Setup, setup, LineAnswer, answer, refusedLine, outcomeAnswer, freshSetup, requestAnswer, lineAnswer}
+use Rattle.lines.specs.Read.{shownOr}
+use Rattle.answers.specs.Answer.{Setup, setup, LineAnswer, refusedLine, outcomeAnswer, freshSetup, requestAnswer, lineAnswer}
 use Rattle.tape.specs.Tape.{linesFrom, tapeAnswers, emptySetup}
 use Rattle.feeding.specs.Told.{Told, tells, lineTold, stepsTold, partTold, linesTold}
 use Rattle.feeding.specs.Steps.{setupAfter, toldBy, AccountsFor, BytesAccounted}
 use Rattle.feeding.proofs.WholeLaws.{setup-lines, before-any}
-use Rattle.feeding.proofs.ToldLaws.{charsOf, chars-number, chars-out, answerLines, answers-cut}
+use Rattle.feeding.proofs.ToldLaws.{charsOf, chars-out, answerLines, answers-cut}
 
 -- the acts that lines name
 abbrev inputOf : Request → List Input
@@ -123,15 +123,13 @@ Owed lines s = AccountsFor (linesTold lines (answerLines s lines)) (setupAfter s
 abbrev OwedAfter : Request → List (List ℕ) → LineAnswer → Type 0
 OwedAfter r lines a =
     let answers : List (List ℕ) = answerLines (a .after) lines in
-    AccountsFor (partTold r (charsOf a) (stepsTold lines answers) (linesTold lines answers)) (setupAfter (a .after) lines)
+    AccountsFor (partTold r (stepsTold lines answers) (linesTold lines answers)) (setupAfter (a .after) lines)
 
 line-owes : (r : Request) (lines : List (List ℕ)) (w : World) → Owed lines (setup 0 w) → OwedAfter r lines (requestAnswer r (setup 0 w))
 line-owes (PartLine n) lines w h =
-    let zero : (a : LineAnswer) → eqb (numberRead (charsOf a)) 0 ≡ eqb (a .number) 0 = λ a. ap (λ (k : ℕ). eqb k 0) (chars-number a) in
     pick-when (OwedAfter (PartLine n) lines) (isPart n)
-    (λ p.
-    subst (λ (t : Told). AccountsFor t (setupAfter (freshSetup n) lines)) (yes _ _ (zero (answer 0 Z (freshSetup n)))) (fresh-owes n p lines))
-    (λ p. subst (λ (t : Told). AccountsFor t (setupAfter (setup 0 w) lines)) (no _ _ (zero (refusedLine 3 (setup 0 w)))) h)
+    (λ p. subst (λ (t : Told). AccountsFor t (setupAfter (freshSetup n) lines)) (yes _ _ p) (fresh-owes n p lines))
+    (λ p. subst (λ (t : Told). AccountsFor t (setupAfter (setup 0 w) lines)) (no _ _ p) h)
 line-owes (ActLine act arg) lines w h = h
 line-owes Bad lines w h = h
 

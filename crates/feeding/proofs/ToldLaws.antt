@@ -1,5 +1,5 @@
 -- The answers to a tape as lines: no byte of an answer but its last is a newline, so their text is cut into the answers again, one for each
--- line, in their order; and of each its number and its out are read back.
+-- line, in their order; and of each its out is read back.
 -- Assumes nothing.
 use mathlib.Core.Path.{_≡_, refl, sym, ap, _∙_}
 use mathlib.Core.List.{List, [], _∷_, _++_, append-nil}
@@ -14,8 +14,8 @@ use Rattle.ticks.specs.Lines.{irqLow, wdoLow}
 use Rattle.text.specs.Bytes.{leading, newline, plain}
 use Rattle.text.proofs.BytesLaws.{leading-first, leading-rest}
 use Rattle.lines.specs.Print.{answerChars, answerLine}
-use Rattle.lines.specs.Read.{numberRead, outRead}
-use Rattle.lines.proofs.ReadLaws.{number-read, out-read, answer-plain}
+use Rattle.lines.specs.Read.{outRead}
+use Rattle.lines.proofs.ReadLaws.{out-read, answer-plain}
 use Rattle.answers.specs.Answer.{Setup, LineAnswer, lineAnswer, levelHigh, answerText}
 use Rattle.tape.specs.Tape.{linesFrom, answersTo}
 
@@ -25,10 +25,6 @@ charsOf a =
     let part : ℕ = a .after .part in
     let d : Device = a .after .chip .device in
     answerChars (a .number) (a .out) (levelHigh part (irqLow d)) (levelHigh part (wdoLow d))
-
-pub chars-number : (a : LineAnswer) → numberRead (charsOf a) ≡ a .number
-unfolding charsOf
-chars-number a = number-read _ _ _ _
 
 pub chars-out : (a : LineAnswer) → outRead (charsOf a) ≡ a .out
 unfolding charsOf

@@ -2,11 +2,13 @@
 -- answers; what was not taken is offered again; then `finish`. The calls are the functions' promises (Tape). Not who reads the bytes, and who
 -- writes the answers out.
 -- Assumes nothing.
-use Prim.Native.Nat.{ℕ, _-_, _<_, _≤_}
+use Prim.Native.Nat.{ℕ, suc, _-_, _≤_}
 use mathlib.Core.Path.{_≡_}
-use mathlib.Core.Bool.{true}
+use mathlib.Core.Bool.{Bool, true, _&&_}
 use mathlib.Core.List.{List, [], _∷_, _++_}
+use lib.Dec.{ltb, leb}
 use lib.ListN.{length, take, drop}
+use Rattle.base.specs.Words.{pick}
 use Rattle.text.specs.Buffer.{Buffer, roomIn}
 use Rattle.lines.specs.Print.{answerRoom}
 use Rattle.answers.specs.Answer.{setupIn}
@@ -43,14 +45,14 @@ lastCall c o = finishInto (c .loan) o
 abbrev pub printed : Course → Buffer → List ℕ
 printed c o = c .written ++ wrote o (lastCall c o .written)
 
--- a call that gets on: it is offered a byte at least, and has room for an answer
-pub record GetsOn (x : Offer) : Type 0 where
-  pub some : 0 < x .size
-  pub room : answerRoom ≤ roomIn (x .into)
+-- a call gets on if it is offered a byte at least, and has room for an answer
+abbrev pub getsOn : Offer → Bool
+getsOn x = ltb 0 (x .size) && leb answerRoom (roomIn (x .into))
 
-abbrev pub AllGetOn : List Offer → Type 0
-AllGetOn [] = Unit {0}
-AllGetOn (x ∷ xs) = GetsOn x × AllGetOn xs
+-- how many of the calls do
+unfoldable pub gettingOn : List Offer → ℕ
+gettingOn [] = 0
+gettingOn (x ∷ xs) = pick (getsOn x) (suc (gettingOn xs)) (gettingOn xs)
 
 -- what is lent to a tape before its first byte: the tape that `start` answers, and buffers of their sizes, whatever lies in them
 pub record Begins (l : Loan) : Type 0 where
@@ -61,8 +63,8 @@ pub record Begins (l : Loan) : Type 0 where
 
 -- A tape of these bytes, fed by these calls, from what is lent at first.
 pub record FeedsWell (l : Loan) (bytes : List ℕ) (xs : List Offer) : Type 0 where
-  -- it ends: if each call gets on, as many calls as there are bytes leave nothing
-  pub ends : AllGetOn xs → length bytes ≤ length xs → courseOf l bytes xs .left ≡ []
+  -- it ends: as many calls that get on as there are bytes leave nothing, whatever calls stand between them
+  pub ends : length bytes ≤ gettingOn xs → courseOf l bytes xs .left ≡ []
   -- at any time what was written is a beginning of the answers to the whole tape
   pub begins : (rest : List ℕ) × (courseOf l bytes xs .written ++ rest ≡ tapeAnswers bytes)
   -- when nothing is left and `finish` has room, it is all of them

@@ -40,6 +40,33 @@ partCase =
     ∷ ("op=up arg=0", "no=5 out=z irq=1 wdo=1")
     ∷ []
 
+-- T8. The levels shown are those after the act, each its own. WRITE of 0Fh = 08h and 08h = 10h pulls IRQ at its second data byte, of 88h pulls WDO; the
+-- flag cleared again, the line is high again.
+abbrev pub levelCase : List (String × String)
+levelCase =
+    ("op=part arg=1", "no=0 out=z irq=1 wdo=1")
+    ∷ ("op=select arg=0", "no=0 out=z irq=1 wdo=1")
+    ∷ ("op=byte arg=18", "no=0 out=z irq=1 wdo=1")
+    ∷ ("op=byte arg=15", "no=0 out=z irq=1 wdo=1")
+    ∷ ("op=byte arg=8", "no=0 out=z irq=1 wdo=1")
+    ∷ ("op=end arg=0", "no=0 out=z irq=1 wdo=1")
+    ∷ ("op=select arg=0", "no=0 out=z irq=1 wdo=1")
+    ∷ ("op=byte arg=18", "no=0 out=z irq=1 wdo=1")
+    ∷ ("op=byte arg=8", "no=0 out=z irq=1 wdo=1")
+    ∷ ("op=byte arg=16", "no=0 out=z irq=0 wdo=1")
+    ∷ ("op=end arg=0", "no=0 out=z irq=0 wdo=1")
+    ∷ ("op=select arg=0", "no=0 out=z irq=0 wdo=1")
+    ∷ ("op=byte arg=18", "no=0 out=z irq=0 wdo=1")
+    ∷ ("op=byte arg=15", "no=0 out=z irq=0 wdo=1")
+    ∷ ("op=byte arg=136", "no=0 out=z irq=1 wdo=0")
+    ∷ ("op=end arg=0", "no=0 out=z irq=1 wdo=0")
+    ∷ ("op=part arg=3", "no=7 out=z irq=1 wdo=0")
+    ∷ []
+
+-- T6. each of the other parts is one
+abbrev pub thirdPart : List (String × String)
+thirdPart = ("op=part arg=3", "no=0 out=z irq=1 wdo=1") ∷ []
+
 -- the tape of such rows, and the answers, a newline after each line
 abbrev pub tapeOf : List (String × String) → List ℕ
 tapeOf [] = []
@@ -54,4 +81,4 @@ abbrev pub AnsweredAs : List (String × String) → Type 0
 AnsweredAs rows = tapeAnswers (tapeOf rows) ≡ answersOf rows
 
 unfoldable pub WholeCase : Type 0
-WholeCase = AnsweredAs wholeCase × AnsweredAs partCase
+WholeCase = AnsweredAs wholeCase × AnsweredAs partCase × AnsweredAs levelCase × AnsweredAs thirdPart
