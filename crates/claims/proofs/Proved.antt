@@ -1,4 +1,4 @@
--- The three demands, proved by citing: the table's theorem, the functions' proofs, demand 3 and the law of every feeding.
+-- The three demands, proved by citing: the table's theorem and those of a tape's lines, the functions' proofs, demand 3 and the law of every feeding.
 -- Assumes nothing.
 use mathlib.Core.Path.{sym, _∙_}
 use borrow.Author.Tests.{ne-eqb}
@@ -6,9 +6,13 @@ use Rattle.refusals.proofs.TableLaws.{exactly}
 use Rattle.acts.proofs.OutcomeLaws.{answered-by-table, refused-same}
 use Rattle.run.proofs.DemandThree.{demand-three}
 use Rattle.run.proofs.WrongLaws.{enableless-fails, deaf-fails, empty-fails, maskless-fails, lockless-fails}
+use Rattle.lines.proofs.LineLaws.{asks-exactly}
+use Rattle.answers.proofs.AnswerLaws.{seven-exactly, refused-setup}
 use Rattle.feeding.proofs.FeedLaws.{any-feeding}
 use Rattle.acts.proofs.perform.Met as perform
 use Rattle.run.proofs.run.Met as run
+use Rattle.run.proofs.tekuravy_run.Met as tekuravy-run
+use Rattle.tape.proofs.chunk.start.Met as start
 use Rattle.tape.proofs.chunk.feed.Met as feed
 use Rattle.tape.proofs.chunk.finish.Met as finish
 use Rattle.claims.specs.Demands.{Total, Exact, Accountable, Demands}
@@ -22,10 +26,21 @@ total =
             λ t. answered-by-table part act arg w ∙ exactly part act arg (w .device) _ _ k .1 t,
           );
       unchanged = λ part act arg w n. refused-same part act arg w (ne-eqb _ 0 n);
+      asks = asks-exactly;
+      seven = seven-exactly;
+      line-unchanged = λ line s n. refused-setup line s (ne-eqb _ 0 n);
     }
 
 exact : Exact
-exact = record { perform = perform.met; run = run.met; feed = feed.met; finish = finish.met }
+exact =
+    record {
+      perform = perform.met;
+      run = run.met;
+      tekuravy-run = tekuravy-run.met;
+      start = start.met;
+      feed = feed.met;
+      finish = finish.met;
+    }
 
 accountable : Accountable
 accountable =

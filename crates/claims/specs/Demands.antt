@@ -3,6 +3,8 @@
 -- Assumes nothing.
 use Prim.Native.Nat.{ℕ}
 use mathlib.Core.Path.{_≡_}
+use mathlib.Core.Bool.{false}
+use mathlib.Core.List.{List}
 use mathlib.Core.Logic.{_↔_, _≢_}
 use lib.ListN.{length}
 use Rattle.record.specs.declared.Act.{Act}
@@ -11,14 +13,19 @@ use Rattle.refusals.specs.Rows.{TableGives}
 use Rattle.acts.specs.Act.{performed, refused}
 use Rattle.run.specs.Claim.{ourChip, DemandThree}
 use Rattle.run.specs.Wrong.{enablelessChip, deafChip, emptyChip, masklessChip, locklessChip}
+use Rattle.lines.specs.declared.Name.{Name}
+use Rattle.lines.specs.Request.{requestOf, asked, unknownName, Spelled}
+use Rattle.answers.specs.Answer.{Setup, lineAnswer, SevenRow}
 use Rattle.feeding.specs.Feeding.{AnyFeeding}
 use Rattle.acts.proofs.perform.Statement as perform
 use Rattle.run.proofs.run.Statement as run
+use Rattle.run.proofs.tekuravy_run.Statement as tekuravy-run
+use Rattle.tape.proofs.chunk.start.Statement as start
 use Rattle.tape.proofs.chunk.feed.Statement as feed
 use Rattle.tape.proofs.chunk.finish.Statement as finish
 
--- Demand 1, total: whatever the part, the act, its argument, the record and the memories are, there is an answer. `performed` is the definition of
--- an act; that code computes it and always ends is demand 2.
+-- Demand 1, total: whatever the part, the act, its argument, the record and the memories are, there is an answer; and so of any line of bytes on a
+-- tape. `performed` is the definition of an act, `lineAnswer` that of a line; that code computes them and always ends is demand 2.
 pub record Total : Type 0 where
   -- the answer's number is k exactly when the refusal table gives k: row k holds and no row before it, or k is 0 and no row holds
   pub table :
@@ -28,18 +35,29 @@ pub record Total : Type 0 where
   pub unchanged :
       (part : ℕ) (act : Act) (arg : ℕ) (w : World) → performed part act arg w .number ≢ 0
       → performed part act arg w ≡ refused (performed part act arg w .number) w
+  -- a tape's line asks for a part or an act exactly if it is its text: `op=`, the name, ` arg=` and the number, of few digits
+  pub asks : (line : List ℕ) (x : Name) (arg : ℕ) → unknownName x ≡ false → (requestOf line ≡ asked x arg) ↔ Spelled line x arg
+  -- a line is answered 7 exactly when it is bad, an act's before there is a part, or a part's after one
+  pub seven : (line : List ℕ) (s : Setup) → (lineAnswer line s .number ≡ 7) ↔ SevenRow line s
+  -- and a refused line leaves part, record and memories as they were
+  pub line-unchanged : (line : List ℕ) (s : Setup) → lineAnswer line s .number ≢ 0 → lineAnswer line s .after ≡ s
 
--- Demand 2, exact: each function below meets its contract, for every input, and ends. The contract of `perform` is one equation: answer, record and
--- both memories are those of `performed`. `run` performs a list of acts, `feed` and `finish` answer a tape; none of them asks anything of its caller.
+-- Demand 2, exact: each function below meets its contract, for every input, and ends; none asks anything of its caller. A contract stands above its
+-- function's body, in the file named here; `statement` is what the kit makes of it, for every model M of its logic.
 pub record Exact : Type 2 where
+  -- crates/acts/src/lib.rt. One equation: answer, record and both memories are those of `performed`
   pub perform : {M : Type 1} → perform.statement M
+  -- crates/run/src/lib.rt. A list of acts on a fresh chip; and the same for a caller in another language
   pub run : {M : Type 1} → run.statement M
+  pub tekuravy-run : {M : Type 1} → tekuravy-run.statement M
+  -- crates/tape/src/chunk.rt. A tape: before its first byte, a chunk of it, its end
+  pub start : {M : Type 1} → start.statement M
   pub feed : {M : Type 1} → feed.statement M
   pub finish : {M : Type 1} → finish.statement M
 
 -- Demand 3, accountable: after every list of acts each EEPROM and ID byte is the one that the ledger gives, which is told acts, arguments and ticks
--- alone; and of every tape, fed in any way, the same from the bytes of the tape and the bytes printed. The claim is no empty one: chips with a fault
--- do not have it.
+-- alone; and of every tape, fed in any way, the same from the bytes of the tape and the bytes printed. The claim is no empty one: five wrong chips do
+-- not have it.
 pub record Accountable : Type 0 where
   pub acts : DemandThree ourChip
   pub tapes : AnyFeeding

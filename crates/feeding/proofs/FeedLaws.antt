@@ -23,7 +23,7 @@ use Rattle.answers.proofs.BoundLaws.{SetupValid, answer-valid, answer-room}
 use Rattle.tape.specs.Tape.{State, state, headLimit, Fed, fedByte, ahead, fed, finished, ChunksJoin, FedByLines, takenWithin, putInto, takenFrom, Loan, loan, heldIn, stateIn, lending, isTape, Given, gives, feedInto, finishInto, tapeAnswers, emptySetup}
 use Rattle.tape.specs.declared.Tape.{Tape}
 use Rattle.feeding.specs.Steps.{AccountsFor, toldBy, leftAfter, BytesAccounted}
-use Rattle.feeding.specs.Feeding.{Offer, wrote, Course, courseOf, lastCall, printed, getsOn, gettingOn, Begins, AnyFeeding, HasFed}
+use Rattle.feeding.specs.Feeding.{Offer, wrote, Course, courseOf, lastCall, printed, getsOn, gettingOn, Begins, AnyFeeding, HasFed, EndsWhole}
 use Rattle.tape.proofs.TapeLaws.{fed-join, ahead-join, TapeFacts, tape-facts, facts-tape, tape-sound}
 use Rattle.feeding.proofs.WholeLaws.{toEnd, tape-whole, taken-within, taken-some}
 use Rattle.feeding.proofs.LedgerLaws.{bytes-accounted}
@@ -309,7 +309,14 @@ has-more l bytes chunk o h =
           c .after ∙ ap (λ (s : State). fed s k .after) (h .reached) ∙ sym (ap (λ (f : Fed). f .after) (fed-join (state emptySetup []) bytes k));
     }
 
--- and the answers to what was fed grow by what it puts out
+pub ends-whole : EndsWhole
+unfolding EndsWhole FedByLines
+ends-whole l bytes h o r =
+    let s = fed (state emptySetup []) bytes in
+    ap (λ (x : List ℕ). s .answers ++ x) (last-call l o (has-good l bytes h) r .wrote ∙ ap (λ (x : State). finished x .answers) (h .reached))
+    ∙ tape-whole (emptySetup .chip) bytes
+
+-- the answers to what was fed grow by what a call puts out
 pub put-more :
     (l₀ l : Loan) (bytes x chunk : List ℕ) (o : Buffer) → HasFed l₀ bytes → HasFed l (bytes ++ x)
     → o .at + length (fed (stateIn l₀) (x ++ take (feedInto l chunk o .count) chunk) .answers)

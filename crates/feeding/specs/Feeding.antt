@@ -78,8 +78,14 @@ pub record FeedsWell (l : Loan) (bytes : List ℕ) (xs : List Offer) : Type 0 wh
 unfoldable pub AnyFeeding : Type 0
 AnyFeeding = (l : Loan) → Begins l → (bytes : List ℕ) (xs : List Offer) → FeedsWell l bytes xs
 
--- What is lent has been fed these bytes of a tape and no others, by whatever calls: it holds the state that they lead to. So a caller that reads
--- piece by piece says how far it is.
+-- How a caller that feeds piece by piece says how far it is: what is lent holds the state that these bytes of a tape lead to. Other bytes may lead to
+-- it too, since a refused line changes nothing; so such a caller also has to tell how much was answered.
 pub record HasFed (l : Loan) (bytes : List ℕ) : Type 0 where
   pub tape : isTape l ≡ true
   pub reached : stateIn l ≡ fed (state emptySetup []) bytes .after
+
+-- R9. If it then calls `finish`, what that writes stands behind the answers to those bytes, and the two are the answers to the whole tape.
+unfoldable pub EndsWhole : Type 0
+EndsWhole =
+    (l : Loan) (bytes : List ℕ) → HasFed l bytes → (o : Buffer) → answerRoom ≤ roomIn o
+    → fed (state emptySetup []) bytes .answers ++ wrote o (finishInto l o .written) ≡ tapeAnswers bytes

@@ -8,11 +8,13 @@ ghost use lib.ListN.{length};
 ghost use Rattle.lines.specs.Print.{answerRoom};
 ghost use Rattle.tape.specs.Tape.{loan, startTape};
 ghost use Rattle.feeding.specs.Feeding.{Begins};
-ghost use Rattle.mcp795.specs.Reading.{IsFed, FeedsAll, FeedsRead};
+ghost use Rattle.mcp795.specs.Reading.{IsFed, FeedsAll, Ends, FeedsRead};
 
-// A tape between two reads: how far it has come, whether to read on, and whether standard output takes answers.
+// A tape between two reads: how far it has come, how many bytes of answers it put out, whether to read on, and whether standard output takes
+// answers.
 struct Reading {
     tape: Tape,
+    put: usize,
     more: bool,
     open: bool,
 }
@@ -38,28 +40,33 @@ fn answer(
 ) -> Reading
     requires { ⌜ IsFed (loan before (now line) (now eeprom) (now id)) ⌝ }
     requires { ⌜ answerRoom ≤ length (now out) ⌝ }
+    requires { ⌜ length (now chunk) ≤ 65536 ⌝ }
     ensures { λ r. ⌜ r .more ≡ r .open ⌝ }
-    ensures { λ r. ⌜ FeedsAll (loan before (now (line .entry)) (now (eeprom .entry)) (now (id .entry))) (now (chunk .entry)) (r .open)
+    ensures { λ r. ⌜ FeedsAll (loan before (now (line .entry)) (now (eeprom .entry)) (now (id .entry))) (now (chunk .entry)) (r .put) (r .open)
         (loan (r .tape) (now (line .exit)) (now (eeprom .exit)) (now (id .exit))) ⌝ }
 {
     let mut tape = before;
     let mut from: usize = 0;
+    let mut put: usize = 0;
     while from < chunk.len() {
         let left = bytes::rest(chunk, from);
         let fed = tape::chunk::feed(left, tape, line, eeprom, id, out, 0);
-        let open = write_answers(bytes::first(out, fed.at));
         tape = fed.tape;
+        from += fed.taken;
+        put += fed.at;
+        let open = write_answers(bytes::first(out, fed.at));
         if !open {
             return Reading {
                 tape,
+                put,
                 more: false,
                 open: false,
             };
         }
-        from += fed.taken;
     }
     Reading {
         tape,
+        put,
         more: true,
         open: true,
     }
@@ -74,12 +81,15 @@ fn finish(
     out: &mut [u8],
 ) -> Reading
     ensures { λ r. ⌜ r .more ≡ false ⌝ }
+    ensures { λ r. ⌜ Ends (loan before (now (line .entry)) (now (eeprom .entry)) (now (id .entry))) (now (out .entry)) (r .put)
+        (loan (r .tape) (now (line .exit)) (now (eeprom .exit)) (now (id .exit))) (now (out .exit)) ⌝ }
 {
     let fed = tape::chunk::finish(before, line, eeprom, id, out, 0);
     let open = write_answers(bytes::first(out, fed.at));
     let tape = fed.tape;
     Reading {
         tape,
+        put: fed.at,
         more: false,
         open,
     }
@@ -98,14 +108,16 @@ fn read_once(
 ) -> Reading
     requires { ⌜ IsFed (loan before (now line) (now eeprom) (now id)) ⌝ }
     requires { ⌜ answerRoom ≤ length (now out) ⌝ }
-    ensures { λ r. ⌜ FeedsRead (loan before (now (line .entry)) (now (eeprom .entry)) (now (id .entry))) (now (input .exit)) (r .more)
-        (loan (r .tape) (now (line .exit)) (now (eeprom .exit)) (now (id .exit))) ⌝ }
+    requires { ⌜ length (now input) ≤ 65536 ⌝ }
+    ensures { λ r. ⌜ FeedsRead (loan before (now (line .entry)) (now (eeprom .entry)) (now (id .entry))) (now (out .entry)) (now (input .exit)) (r .put)
+        (r .more) (loan (r .tape) (now (line .exit)) (now (eeprom .exit)) (now (id .exit))) (now (out .exit)) ⌝ }
 {
     let got = libc::read(fd, input);
     if got < 0 {
         crate::tell(name);
         return Reading {
             tape: before,
+            put: 0,
             more: false,
             open: true,
         };
@@ -129,9 +141,11 @@ fn read_all(
 ) -> bool
     requires { ⌜ Begins (loan startTape (now line) (now eeprom) (now id)) ⌝ }
     requires { ⌜ answerRoom ≤ length (now out) ⌝ }
+    requires { ⌜ length (now input) ≤ 65536 ⌝ }
 {
     let mut reading = Reading {
         tape: tape::chunk::start(),
+        put: 0,
         more: true,
         open: true,
     };

@@ -44,7 +44,7 @@ loop-holds c =
 read-once-requires : tie.Need-read-once-requires Inv-loop μ-loop
 read-once-requires c κs =
     let l = c .before .before .before .before .before .before .before .before .before .loop in
-    (l .inv .1 (not-false (l .reading .more) (c .before .before .before .before .before .before .if1 .left)), omega (arith, c .before .before .before .before .before .before .before .before .before .before .before .before .before .before .before .before .before .pre .1, l .inv .0 .out))
+    (l .inv .1 (not-false (l .reading .more) (c .before .before .before .before .before .before .if1 .left)), (omega (arith, c .before .before .before .before .before .before .before .before .before .before .before .before .before .before .before .before .before .pre .1 .0, l .inv .0 .out), omega (arith, c .before .before .before .before .before .before .before .before .before .before .before .before .before .before .before .before .before .pre .1 .1, l .inv .0 .input)))
 
 loop-again : tie.Need-loop-again Inv-loop μ-loop
 loop-again c =
@@ -60,7 +60,7 @@ loop-again c =
         id = f .kept .1 .1 .1 .1 .1 .1 .0 ∙ i .id;
         out = f .kept .1 .1 .1 .1 .1 .1 .1 .0 ∙ i .out;
       },
-      read-on ll next (f .last .1 .1 .1 .0) (f .result .more) (l .inv .1 (not-false (l .reading .more) (c .before .before .before .before .before .before .before .before .before .before .before .before .before .before .before .before .before .if1 .left))) (f .ensures),
+      read-on ll next (l .out) (f .last .1 .1 .1 .1 .1 .1 .1 .0) (f .last .1 .1 .1 .0) (f .result .put) (f .result .more) (l .inv .1 (not-false (l .reading .more) (c .before .before .before .before .before .before .before .before .before .before .before .before .before .before .before .before .before .if1 .left))) (f .ensures),
     )
 
 pub read-all-spec : {M : Type 1} → statement M
