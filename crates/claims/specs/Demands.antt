@@ -1,4 +1,4 @@
--- The three demands on the copy, as one statement. Each part is the name of a claim that stands elsewhere, or a function's contract as the checker
+-- The three demands on the copy, as one statement. Each part is a claim over definitions that stand elsewhere, or a function's contract as the checker
 -- states it; nothing of the chip is defined here. 'Proved' means: equal to the outline's rules, as docs/RULES.md tells them; not: equal to silicon.
 -- Assumes nothing.
 use Prim.Native.Nat.{ℕ}
@@ -27,7 +27,8 @@ use Rattle.tape.proofs.chunk.finish.Statement as finish
 -- Demand 1, total: whatever the part, the act, its argument, the record and the memories are, there is an answer; and so of any line of bytes on a
 -- tape. `performed` is the definition of an act, `lineAnswer` that of a line; that code computes them and always ends is demand 2.
 pub record Total : Type 0 where
-  -- the answer's number is k exactly when the refusal table gives k: row k holds and no row before it, or k is 0 and no row holds
+  -- the answer's number is k exactly when the refusal table gives k: it is the number of a row that holds, no row before it holding, or k is 0 and no
+  -- row holds
   pub table :
       (part : ℕ) (act : Act) (arg : ℕ) (w : World) (k : ℕ)
       → (performed part act arg w .number ≡ k) ↔ TableGives part act arg (w .device) (length (w .eeprom)) (length (w .id)) k
@@ -35,7 +36,7 @@ pub record Total : Type 0 where
   pub unchanged :
       (part : ℕ) (act : Act) (arg : ℕ) (w : World) → performed part act arg w .number ≢ 0
       → performed part act arg w ≡ refused (performed part act arg w .number) w
-  -- a tape's line asks for a part or an act exactly if it is its text: `op=`, the name, ` arg=` and the number, of few digits
+  -- a tape's line asks for a part or an act exactly if it is its text: `op=`, the name, ` arg=` and the number, of at most 8 digits
   pub asks : (line : List ℕ) (x : Name) (arg : ℕ) → unknownName x ≡ false → (requestOf line ≡ asked x arg) ↔ Spelled line x arg
   -- a line is answered 7 exactly when it is bad, an act's before there is a part, or a part's after one
   pub seven : (line : List ℕ) (s : Setup) → (lineAnswer line s .number ≡ 7) ↔ SevenRow line s
@@ -55,12 +56,14 @@ pub record Exact : Type 2 where
   pub feed : {M : Type 1} → feed.statement M
   pub finish : {M : Type 1} → finish.statement M
 
--- Demand 3, accountable: after every list of acts each EEPROM and ID byte is the one that the ledger gives, which is told acts, arguments and ticks
--- alone; and of every tape, fed in any way, the same from the bytes of the tape and the bytes printed. The claim is no empty one: five wrong chips do
--- not have it.
+-- Demand 3, accountable: after every list of acts on a fresh chip each EEPROM and ID byte is the one that the ledger gives, which is told the part, acts,
+-- arguments and ticks alone.
 pub record Accountable : Type 0 where
   pub acts : DemandThree ourChip
+  -- of every tape, fed in any way: what is written is its answers, it ends, and the ledger accounts for the memories, from the bytes of the tape and the
+  -- bytes written
   pub tapes : AnyFeeding
+  -- the claim is no empty one: five wrong chips do not have it
   pub enableless : ¬ DemandThree enablelessChip
   pub deaf : ¬ DemandThree deafChip
   pub empty : ¬ DemandThree emptyChip

@@ -2,16 +2,16 @@
 -- from it again; one call feeds what it takes; and calls, one after another, feed the tape.
 -- Assumes nothing.
 use mathlib.Core.Path.{_≡_, refl, sym, ap, subst, _∙_}
-use mathlib.Core.Bool.{true, false, _&&_, true≢false}
+use mathlib.Core.Bool.{Bool, true, false, _&&_, and-false, true≢false}
 use mathlib.Core.List.{List, [], _∷_, _++_, append-assoc}
 use Prim.Native.Nat.{ℕ, zero, suc, _+_, _*_, _-_, _<_, _≤_}
 use native.Mathlib.Omega.{arith}
-use borrow.Author.Tests.{le-leb, leb-true, ltb-true, ltb-false}
+use borrow.Author.Tests.{le-leb, le-ltb, leb-true, ltb-true, ltb-false}
 use lib.Dec.{ltb, leb, eqb}
 use lib.ListN.{length, take, drop, length-append, length-take, length-drop, take-append-drop}
-use lib.Seq.{take-at, take-length, drop-at, take-take, length-take-le, sets-eq}
+use lib.Seq.{take-at, take-all, drop-at, take-take, length-take-le, sets-eq}
 use Rattle.base.proofs.OverLaws.{take-over, length-over}
-use Rattle.base.proofs.Tests.{by-cases, yes, pick-case, pick-when, both-left, both-right, both-true}
+use Rattle.base.proofs.Tests.{by-cases, yes, no, pick-case, pick-when, both-left, both-right, both-true}
 use Rattle.record.specs.Part.{idSize}
 use Rattle.record.proofs.PartLaws.{size-most}
 use Rattle.text.specs.Bytes.{newline}
@@ -20,7 +20,7 @@ use Rattle.lines.specs.Print.{answerRoom}
 use Rattle.answers.specs.Answer.{ready, eepromRoom, eepromBytes, idBytes, setupIn}
 use Rattle.answers.proofs.HeldLaws.{Sound, line-sound, held-setup}
 use Rattle.answers.proofs.BoundLaws.{SetupValid, answer-valid, answer-room}
-use Rattle.tape.specs.Tape.{State, state, headLimit, Fed, fedByte, ahead, fed, finished, ChunksJoin, FedByLines, takenWithin, putInto, takenFrom, Loan, loan, heldIn, stateIn, lending, isTape, Given, gives, feedInto, finishInto, tapeAnswers, emptySetup}
+use Rattle.tape.specs.Tape.{State, state, headLimit, Fed, fedByte, ahead, fed, finished, ChunksJoin, FedByLines, takenWithin, putInto, takenFrom, Loan, loan, heldIn, stateIn, lending, Given, gives, feedInto, finishInto, tapeAnswers, emptySetup}
 use Rattle.tape.specs.declared.Tape.{Tape}
 use Rattle.feeding.specs.Steps.{AccountsFor, toldBy, leftAfter, BytesAccounted}
 use Rattle.feeding.specs.Feeding.{Offer, wrote, Course, courseOf, lastCall, printed, getsOn, gettingOn, Begins, AnyFeeding, HasFed, EndsWhole}
@@ -133,10 +133,9 @@ pub record Called (l : Loan) (chunk : List ℕ) (o : Buffer) (g : Given) : Type 
   pub good : Good (g .after)
   pub after : stateIn (g .after) ≡ fed (stateIn l) (take (g .count) chunk) .after
   pub wrote : wrote o (g .written) ≡ fed (stateIn l) (take (g .count) chunk) .answers
-  pub at : g .written .at ≡ o .at + length (fed (stateIn l) (take (g .count) chunk) .answers)
 
 one-call : (l : Loan) (chunk : List ℕ) (o : Buffer) → Good l → Called l chunk o (feedInto l chunk o)
-unfolding feedInto takenFrom append
+unfolding feedInto takenFrom
 one-call l chunk o g =
     let s = stateIn l in
     let k = takenWithin (roomIn o) s chunk in
@@ -147,7 +146,6 @@ one-call l chunk o g =
       good = laid-good l (fed s (take k chunk) .after) g f;
       after = laid-state l (fed s (take k chunk) .after) f;
       wrote = wrote-text o (fed s (take k chunk) .answers) (taken-room chunk (roomIn o) s (g .fine));
-      at = refl;
     })
 
 -- The last one feeds the end of the tape.
@@ -285,7 +283,7 @@ any-feeding l b bytes xs =
           (subst (AccountsFor (toldBy bytes (tapeAnswers bytes))) (sym (left z o h)) (bytes-accounted bytes (emptySetup .chip)));
     }
 
--- How far a caller is that reads piece by piece: at first nothing is fed; a call feeds what it takes of its chunk, and where it has room that is some
+-- How far a caller is that reads piece by piece: at first nothing is fed; a call feeds what it takes of its chunk, and where it has room that is all
 -- of it.
 empty-fine : Fine (state emptySetup [])
 unfolding ready
@@ -316,41 +314,36 @@ ends-whole l bytes h o r =
     ap (λ (x : List ℕ). s .answers ++ x) (last-call l o (has-good l bytes h) r .wrote ∙ ap (λ (x : State). finished x .answers) (h .reached))
     ∙ tape-whole (emptySetup .chip) bytes
 
--- the answers to what was fed grow by what a call puts out
-pub put-more :
-    (l₀ l : Loan) (bytes x chunk : List ℕ) (o : Buffer) → HasFed l₀ bytes → HasFed l (bytes ++ x)
-    → o .at + length (fed (stateIn l₀) (x ++ take (feedInto l chunk o .count) chunk) .answers)
-    ≡ length (fed (stateIn l₀) x .answers) + feedInto l chunk o .written .at
-unfolding ChunksJoin
-put-more l₀ l bytes x chunk o h₀ h =
-    let s = stateIn l₀ in
-    let c = one-call l chunk o (has-good l (bytes ++ x) h) in
-    let k = take (feedInto l chunk o .count) chunk in
-    let e : fed s x .after ≡ stateIn l =
-    ap (λ (y : State). fed y x .after) (h₀ .reached) ∙ sym (ap (λ (f : Fed). f .after) (fed-join (state emptySetup []) bytes x)) ∙ sym (h .reached) in
-    let j = ap (λ (f : Fed). length (f .answers)) (fed-join s x k) ∙ length-append (fed s x .answers) (fed (fed s x .after) k .answers) in
-    let m = ap (λ (y : State). length (fed y k .answers)) e in
-    omega (arith, j, m, c .at)
-
--- no line's answer is longer than its room, so the answers to so many bytes are no longer than so many rooms
-fed-room : (bytes : List ℕ) (s : State) → Fine s → length (fed s bytes .answers) ≤ answerRoom * length bytes
-unfolding fed
-fed-room [] s f = omega arith
-fed-room (b ∷ bytes) s f =
+-- A call whose buffer has room for an answer to each byte of its chunk takes the chunk whole.
+taken-all : (bytes : List ℕ) (room : ℕ) (s : State) → Fine s → answerRoom * length bytes ≤ room → takenWithin room s bytes ≡ length bytes
+unfolding takenWithin
+taken-all [] room s f r = refl
+taken-all (b ∷ bytes) room s f r =
     let a = fedByte b s .answers in
-    let r : length a ≤ answerRoom = pick-case (λ (g : Fed). length (g .answers) ≤ answerRoom) (eqb b newline) (answer-room (s .begun) (s .setup) (f .valid)) (omega arith) in
-    omega (arith, r, fed-room bytes (fedByte b s .after) (byte-fine b s f), length-append a (fed (fedByte b s .after) bytes .answers))
+    let m : length a ≤ answerRoom = pick-case (λ (g : Fed). length (g .answers) ≤ answerRoom) (eqb b newline) (answer-room (s .begun) (s .setup) (f .valid)) (omega arith) in
+    let t : ltb room answerRoom ≡ false = le-ltb room answerRoom (omega arith) in
+    let u : (eqb b newline && ltb room answerRoom) ≡ false = ap (λ (x : Bool). eqb b newline && x) t ∙ and-false (eqb b newline) in
+    sym (no 0 (suc (takenWithin (room - length a) (fedByte b s .after) bytes)) u)
+    ∙ ap suc (taken-all bytes (room - length a) (fedByte b s .after) (byte-fine b s f) (omega arith))
 
-pub put-room : (l : Loan) (bytes chunk : List ℕ) → HasFed l bytes → length (fed (stateIn l) chunk .answers) ≤ answerRoom * length chunk
-put-room l bytes chunk h = fed-room chunk (stateIn l) (has-good l bytes h .fine)
-
-pub has-some :
-    (l : Loan) (bytes : List ℕ) (b : ℕ) (chunk : List ℕ) (o : Buffer) → HasFed l bytes → answerRoom ≤ roomIn o → 0 < feedInto l (b ∷ chunk) o .count
-has-some l bytes b chunk o h r =
-    let n = suc (length chunk) in
-    subst (λ (x : List ℕ). 0 < feedInto l (b ∷ x) o .count) (take-length chunk) (takes-some n o l b chunk (has-good l bytes h) (omega arith) r)
-
--- no call takes more than its chunk has
-pub feed-count : (l : Loan) (chunk : List ℕ) (o : Buffer) → feedInto l chunk o .count ≤ length chunk
+call-whole :
+    (l : Loan) (bytes chunk : List ℕ) (o : Buffer) → HasFed l bytes → answerRoom * length chunk ≤ roomIn o → take (feedInto l chunk o .count) chunk ≡ chunk
 unfolding feedInto takenFrom
-feed-count l chunk o = pick-case (λ (g : Given). g .count ≤ length chunk) (isTape l) (taken-within chunk (roomIn o) (stateIn l)) (omega arith)
+call-whole l bytes chunk o h r =
+    let g = has-good l bytes h in
+    let e = taken-all chunk (roomIn o) (stateIn l) (g .fine) r in
+    subst (λ (x : Given). take (x .count) chunk ≡ chunk) (yes (gives l (takenFrom (stateIn l) chunk o)) _ (facts-tape l (g .facts)))
+    (take-all (takenWithin (roomIn o) (stateIn l) chunk) chunk (omega (arith, e)))
+
+pub has-all :
+    (l : Loan) (bytes chunk : List ℕ) (o : Buffer) → HasFed l bytes → answerRoom * length chunk ≤ roomIn o
+    → HasFed (feedInto l chunk o .after) (bytes ++ chunk)
+has-all l bytes chunk o h r =
+    subst (λ (x : List ℕ). HasFed (feedInto l chunk o .after) (bytes ++ x)) (call-whole l bytes chunk o h r) (has-more l bytes chunk o h)
+
+-- and what it wrote are the answers
+pub wrote-all :
+    (l : Loan) (bytes chunk : List ℕ) (o : Buffer) → HasFed l bytes → answerRoom * length chunk ≤ roomIn o
+    → wrote o (feedInto l chunk o .written) ≡ fed (stateIn l) chunk .answers
+wrote-all l bytes chunk o h r =
+    one-call l chunk o (has-good l bytes h) .wrote ∙ ap (λ (x : List ℕ). fed (stateIn l) x .answers) (call-whole l bytes chunk o h r)

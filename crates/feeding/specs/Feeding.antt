@@ -79,12 +79,13 @@ unfoldable pub AnyFeeding : Type 0
 AnyFeeding = (l : Loan) → Begins l → (bytes : List ℕ) (xs : List Offer) → FeedsWell l bytes xs
 
 -- How a caller that feeds piece by piece says how far it is: what is lent holds the state that these bytes of a tape lead to. Other bytes may lead to
--- it too, since a refused line changes nothing; so such a caller also has to tell how much was answered.
+-- it too, since a refused line changes nothing; so such a caller also has to tell what was answered.
 pub record HasFed (l : Loan) (bytes : List ℕ) : Type 0 where
   pub tape : isTape l ≡ true
   pub reached : stateIn l ≡ fed (state emptySetup []) bytes .after
 
--- R9. If it then calls `finish`, what that writes stands behind the answers to those bytes, and the two are the answers to the whole tape.
+-- R9. If it then calls `finish`, with room for an answer, what that writes stands behind the answers to those bytes, and the two are the answers to the
+-- whole tape.
 unfoldable pub EndsWhole : Type 0
 EndsWhole =
     (l : Loan) (bytes : List ℕ) → HasFed l bytes → (o : Buffer) → answerRoom ≤ roomIn o

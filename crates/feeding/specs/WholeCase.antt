@@ -1,5 +1,5 @@
--- The whole case as text, and what comes before a part: the bytes of a tape, and the bytes of its answers. It is one closed statement about `tapeAnswers`, so about
--- what `feed` and `finish` put into a buffer; not about any other tape.
+-- The whole case as text, what comes before a part, and the two levels at work: the bytes of a tape, and the bytes of its answers. It is one closed
+-- statement about `tapeAnswers`, so about what `feed` and `finish` put into a buffer; not about any other tape.
 -- Assumes nothing.
 use Prim.Native.Nat.{ℕ}
 use Prim.Native.String.{String}
@@ -40,8 +40,8 @@ partCase =
     ∷ ("op=up arg=0", "no=5 out=z irq=1 wdo=1")
     ∷ []
 
--- T8. The levels shown are those after the act, each its own. WRITE of 0Fh = 08h and 08h = 10h pulls IRQ at its second data byte, of 88h pulls WDO; the
--- flag cleared again, the line is high again.
+-- T8. The levels shown are those after the act, each its own. WRITE of 0Fh = 08h sets alarm 0's flag; of 08h = 10h makes the alarm active, and IRQ is low;
+-- of 0Fh = 88h puts it on WDO, and IRQ is high again; a refused line shows the levels too; of 0Fh = 80h clears the flag, and both are high.
 abbrev pub levelCase : List (String × String)
 levelCase =
     ("op=part arg=1", "no=0 out=z irq=1 wdo=1")
@@ -61,9 +61,14 @@ levelCase =
     ∷ ("op=byte arg=136", "no=0 out=z irq=1 wdo=0")
     ∷ ("op=end arg=0", "no=0 out=z irq=1 wdo=0")
     ∷ ("op=part arg=3", "no=7 out=z irq=1 wdo=0")
+    ∷ ("op=select arg=0", "no=0 out=z irq=1 wdo=0")
+    ∷ ("op=byte arg=18", "no=0 out=z irq=1 wdo=0")
+    ∷ ("op=byte arg=15", "no=0 out=z irq=1 wdo=0")
+    ∷ ("op=byte arg=128", "no=0 out=z irq=1 wdo=1")
+    ∷ ("op=end arg=0", "no=0 out=z irq=1 wdo=1")
     ∷ []
 
--- T6. each of the other parts is one
+-- T6. the third part; the tapes above have the others
 abbrev pub thirdPart : List (String × String)
 thirdPart = ("op=part arg=3", "no=0 out=z irq=1 wdo=1") ∷ []
 

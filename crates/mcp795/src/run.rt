@@ -1,7 +1,7 @@
 // One tape, from a descriptor to standard output. All answers to what has been read are written before more is read.
 use tape::Tape;
 use text::bytes;
-ghost use Prim.Native.Nat.{_≤_};
+ghost use Prim.Native.Nat.{_*_, _≤_};
 ghost use mathlib.Core.Path.{_≡_};
 ghost use mathlib.Core.Bool.{false};
 ghost use lib.ListN.{length};
@@ -10,8 +10,13 @@ ghost use Rattle.tape.specs.Tape.{loan, startTape};
 ghost use Rattle.feeding.specs.Feeding.{Begins};
 ghost use Rattle.mcp795.specs.Reading.{IsFed, FeedsAll, Ends, FeedsRead};
 
-// A tape between two reads: how far it has come, how many bytes of answers it put out, whether to read on, and whether standard output takes
-// answers.
+// Bytes that are read at once; and room for the answers to all of them, were each a line of its own.
+const INPUT_ROOM: usize = 4096;
+
+const OUT_ROOM: usize = INPUT_ROOM * lines::print::ANSWER_ROOM;
+
+// A tape between two reads: how far it has come, how many bytes of answers the last read put out, whether to read on, and whether standard
+// output takes answers.
 struct Reading {
     tape: Tape,
     put: usize,
@@ -29,7 +34,7 @@ fn write_answers(answers: &[u8]) -> bool {
     false
 }
 
-// Answers what was read. Where the output is full before that, it is written out, and what was not taken is offered again.
+// Answers what was read.
 fn answer(
     chunk: &[u8],
     before: Tape,
@@ -39,36 +44,19 @@ fn answer(
     out: &mut [u8],
 ) -> Reading
     requires { ⌜ IsFed (loan before (now line) (now eeprom) (now id)) ⌝ }
-    requires { ⌜ answerRoom ≤ length (now out) ⌝ }
-    requires { ⌜ length (now chunk) ≤ 65536 ⌝ }
-    ensures { λ r. ⌜ r .more ≡ r .open ⌝ }
-    ensures { λ r. ⌜ FeedsAll (loan before (now (line .entry)) (now (eeprom .entry)) (now (id .entry))) (now (chunk .entry)) (r .put) (r .open)
-        (loan (r .tape) (now (line .exit)) (now (eeprom .exit)) (now (id .exit))) ⌝ }
+    requires { ⌜ answerRoom * length (now chunk) ≤ length (now out) ⌝ }
+    ensures { λ r. ⌜ FeedsAll (loan before (now (line .entry)) (now (eeprom .entry)) (now (id .entry))) (now (chunk .entry))
+        (loan (r .tape) (now (line .exit)) (now (eeprom .exit)) (now (id .exit))) (now (out .exit)) (r .put) ⌝ }
 {
-    let mut tape = before;
-    let mut from: usize = 0;
-    let mut put: usize = 0;
-    while from < chunk.len() {
-        let left = bytes::rest(chunk, from);
-        let fed = tape::chunk::feed(left, tape, line, eeprom, id, out, 0);
-        tape = fed.tape;
-        from += fed.taken;
-        put += fed.at;
-        let open = write_answers(bytes::first(out, fed.at));
-        if !open {
-            return Reading {
-                tape,
-                put,
-                more: false,
-                open: false,
-            };
-        }
-    }
+    let fed = tape::chunk::feed(chunk, before, line, eeprom, id, out, 0);
+    let put = fed.at;
+    let open = write_answers(bytes::first(out, put));
+    let tape = fed.tape;
     Reading {
         tape,
         put,
-        more: true,
-        open: true,
+        more: open,
+        open,
     }
 }
 
@@ -81,15 +69,16 @@ fn finish(
     out: &mut [u8],
 ) -> Reading
     ensures { λ r. ⌜ r .more ≡ false ⌝ }
-    ensures { λ r. ⌜ Ends (loan before (now (line .entry)) (now (eeprom .entry)) (now (id .entry))) (now (out .entry)) (r .put)
-        (loan (r .tape) (now (line .exit)) (now (eeprom .exit)) (now (id .exit))) (now (out .exit)) ⌝ }
+    ensures { λ r. ⌜ Ends (loan before (now (line .entry)) (now (eeprom .entry)) (now (id .entry))) (now (out .entry))
+        (loan (r .tape) (now (line .exit)) (now (eeprom .exit)) (now (id .exit))) (now (out .exit)) (r .put) ⌝ }
 {
-    let fed = tape::chunk::finish(before, line, eeprom, id, out, 0);
-    let open = write_answers(bytes::first(out, fed.at));
-    let tape = fed.tape;
+    let last = tape::chunk::finish(before, line, eeprom, id, out, 0);
+    let put = last.at;
+    let open = write_answers(bytes::first(out, put));
+    let tape = last.tape;
     Reading {
         tape,
-        put: fed.at,
+        put,
         more: false,
         open,
     }
@@ -107,10 +96,9 @@ fn read_once(
     out: &mut [u8],
 ) -> Reading
     requires { ⌜ IsFed (loan before (now line) (now eeprom) (now id)) ⌝ }
-    requires { ⌜ answerRoom ≤ length (now out) ⌝ }
-    requires { ⌜ length (now input) ≤ 65536 ⌝ }
-    ensures { λ r. ⌜ FeedsRead (loan before (now (line .entry)) (now (eeprom .entry)) (now (id .entry))) (now (out .entry)) (now (input .exit)) (r .put)
-        (r .more) (loan (r .tape) (now (line .exit)) (now (eeprom .exit)) (now (id .exit))) (now (out .exit)) ⌝ }
+    requires { ⌜ answerRoom * length (now input) ≤ length (now out) ⌝ }
+    ensures { λ r. ⌜ FeedsRead (loan before (now (line .entry)) (now (eeprom .entry)) (now (id .entry))) (now (out .entry)) (now (input .exit))
+        (loan (r .tape) (now (line .exit)) (now (eeprom .exit)) (now (id .exit))) (now (out .exit)) (r .put) (r .more) ⌝ }
 {
     let got = libc::read(fd, input);
     if got < 0 {
@@ -140,8 +128,7 @@ fn read_all(
     out: &mut [u8],
 ) -> bool
     requires { ⌜ Begins (loan startTape (now line) (now eeprom) (now id)) ⌝ }
-    requires { ⌜ answerRoom ≤ length (now out) ⌝ }
-    requires { ⌜ length (now input) ≤ 65536 ⌝ }
+    requires { ⌜ answerRoom * length (now input) ≤ length (now out) ⌝ }
 {
     let mut reading = Reading {
         tape: tape::chunk::start(),
@@ -163,8 +150,8 @@ fn read_all(
 
 // Answers the tape of a descriptor. The answer is whether standard output still takes answers.
 pub fn run_tape(fd: i32, name: &[u8]) -> bool {
-    let mut input = io::large_buffer();
-    let mut out = io::large_buffer();
+    let mut input = [0u8; INPUT_ROOM];
+    let mut out = [0u8; OUT_ROOM];
     let mut line = [0u8; tape::chunk::HEAD_LIMIT];
     let mut eeprom = [0u8; tape::chunk::EEPROM_ROOM];
     let mut id = [0u8; tape::chunk::ID_SIZE];

@@ -1,4 +1,4 @@
--- `mcp795::run::read_all`: as long as there is more to read, what was read so far has been fed; the turns that are left run down.
+-- `mcp795::run::read_all`: as long as there is more to read, some bytes of a tape have been fed; the turns that are left run down.
 -- Assumes nothing.
 use native.Mathlib.Omega.{arith}
 use mathlib.Core.Path.{_≡_, refl, sym, subst, _∙_}
@@ -44,7 +44,7 @@ loop-holds c =
 read-once-requires : tie.Need-read-once-requires Inv-loop μ-loop
 read-once-requires c κs =
     let l = c .before .before .before .before .before .before .before .before .before .loop in
-    (l .inv .1 (not-false (l .reading .more) (c .before .before .before .before .before .before .if1 .left)), (omega (arith, c .before .before .before .before .before .before .before .before .before .before .before .before .before .before .before .before .before .pre .1 .0, l .inv .0 .out), omega (arith, c .before .before .before .before .before .before .before .before .before .before .before .before .before .before .before .before .before .pre .1 .1, l .inv .0 .input)))
+    (l .inv .1 (not-false (l .reading .more) (c .before .before .before .before .before .before .if1 .left)), omega (arith, c .before .before .before .before .before .before .before .before .before .before .before .before .before .before .before .before .before .pre .1, l .inv .0 .out, l .inv .0 .input))
 
 loop-again : tie.Need-loop-again Inv-loop μ-loop
 loop-again c =

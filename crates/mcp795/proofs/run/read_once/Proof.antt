@@ -3,7 +3,7 @@
 use mathlib.Core.Logic.{inl, inr}
 use native.Mathlib.Omega.{arith}
 use borrow.Author.Needs.{needs}
-use Rattle.mcp795.proofs.ReadingLaws.{none-read, piece-of}
+use Rattle.mcp795.proofs.ReadingLaws.{none-read}
 use Rattle.mcp795.proofs.run.read_once.Statement.{statement}
 use Rattle.mcp795.proofs.run.read_once.Tie as tie
 
@@ -18,14 +18,12 @@ returns-2 c =
 answer-requires : tie.Need-answer-requires
 answer-requires c κs =
     let b = c .before .before .before .before .before .before .before .before .before .before .before .before .before .before .before .before .before .before .before in
-    (b .pre .0, (b .pre .1 .0, omega (arith, b .pre .1 .1)))
+    (b .pre .0, omega (arith, b .pre .1))
 
 returns-3 : tie.Need-returns-3
 returns-3 c =
     let a = c .before .before .before .before .before .before .before .before .answer in
-    λ bytes h.
-    let p = a .ensures .1 bytes h in
-    inl (piece-of _ _ bytes _ (c .before .before .before .before .before .before .before .before .before .before .before .before .before .before .count .result) _ (p .0) (p .1))
+    λ bytes h. inl (c .before .before .before .before .before .before .before .before .before .before .before .before .before .before .count .result, a .ensures bytes h)
 
 pub read-once-spec : {M : Type 1} → statement M
 read-once-spec =

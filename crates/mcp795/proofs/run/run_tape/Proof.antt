@@ -7,11 +7,10 @@ use Rattle.mcp795.proofs.run.run_tape.Statement.{statement}
 use Rattle.mcp795.proofs.run.run_tape.Tie as tie
 
 read-all-requires : tie.Need-read-all-requires
-read-all-requires c κs = (record { tape = refl; line = refl; eeprom = refl; id = refl }, (omega (arith, c .before .before .before .before .before .large-buffer2 .ensures), omega (arith, c .before .before .before .before .before .before .large-buffer .ensures)))
+read-all-requires c κs = (record { tape = refl; line = refl; eeprom = refl; id = refl }, omega arith)
 
 pub run-tape-spec : {M : Type 1} → statement M
 run-tape-spec =
     tie.close
     (tie.spec
-    (λ c κs. search needs) (λ c κs. search needs) (λ c. search needs) (λ c. search needs) (λ c. search needs) (λ c. search needs)
-    (λ c. search needs) read-all-requires (λ c. search needs))
+    (λ c. search needs) (λ c. search needs) (λ c. search needs) (λ c. search needs) (λ c. search needs) read-all-requires (λ c. search needs))
