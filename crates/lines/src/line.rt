@@ -40,7 +40,7 @@ fn after_name(line: &[u8], size: usize) -> &[u8]
 }
 
 // T5, G9. The text of the number, a part of the line that is lent.
-pub fn digits(line: &[u8], size: usize) -> &[u8]
+fn digits(line: &[u8], size: usize) -> &[u8]
     requires { ⌜ size ≡ nameSize (now line) ⌝ }
     ensures { λ r. ⌜ now r ≡ digitsText (now (line .entry)) ⌝ }
 {

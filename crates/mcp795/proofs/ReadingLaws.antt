@@ -7,24 +7,38 @@ use mathlib.Core.Logic.{inl, ⊎-elim}
 use Prim.Native.Nat.{ℕ, _*_, _-_, _≤_}
 use native.Mathlib.Omega.{arith}
 use lib.ListN.{length, take}
-use Rattle.text.specs.Buffer.{buffer}
+use Rattle.text.specs.Buffer.{Buffer, buffer}
 use Rattle.lines.specs.Print.{answerRoom}
-use Rattle.tape.specs.Tape.{fed, Loan, Given, feedInto}
+use Rattle.tape.specs.declared.Feed.{Feed}
+use Rattle.tape.specs.declared.Tape.{Tape}
+use Rattle.tape.specs.Tape.{fed, Loan, loan, Given, feedInto, givenBy}
 use Rattle.feeding.specs.Feeding.{HasFed}
 use Rattle.feeding.proofs.FeedLaws.{has-all, wrote-all}
 use Rattle.mcp795.specs.Reading.{IsFed, PieceFed, FeedsAll, Ends, FeedsRead}
 
+-- a tape and a count taken over from a call stand in what it gave
+pub taken-over :
+    (f : Feed) (t : Tape) (put : ℕ) (line ee id out : List ℕ) {g : Given} → (t ≡ f .tape) × (put ≡ f .at) → givenBy f line ee id out ≡ g
+    → (loan t line ee id ≡ g .after) × (buffer out put ≡ g .written)
+taken-over f t put line ee id out p e = (
+  ap (λ (x : Tape). loan x line ee id) (p .0) ∙ ap (λ (x : Given). x .after) e,
+  ap (buffer out) (p .1) ∙ ap (λ (x : Given). x .written) e,
+)
+
 -- a call that puts its answers at the output's beginning
 pub all-fed :
-    (l : Loan) (chunk out : List ℕ) (g : Given) → g ≡ feedInto l chunk (buffer out 0) → answerRoom * length chunk ≤ length out
-    → FeedsAll l chunk (g .after) (g .written .bytes) (g .written .at)
-all-fed l chunk out g e r bytes h =
+    (l l′ : Loan) (chunk out out′ : List ℕ) (put : ℕ) → answerRoom * length chunk ≤ length out
+    → (l′ ≡ feedInto l chunk (buffer out 0) .after) × (buffer out′ put ≡ feedInto l chunk (buffer out 0) .written) → FeedsAll l chunk l′ out′ put
+all-fed l l′ chunk out out′ put r e bytes h =
     let o = buffer out 0 in
     let m : answerRoom * length chunk ≤ length out - 0 = omega arith in
     let w = feedInto l chunk o .written in
     let n : w .at - 0 ≡ w .at = omega arith in
-    subst (λ (x : Given). PieceFed l bytes chunk (x .after) (x .written .bytes) (x .written .at)) (sym e)
-    (record { behind = has-all l bytes chunk o h m; answered = ap (λ (k : ℕ). take k (w .bytes)) (sym n) ∙ wrote-all l bytes chunk o h m })
+    record {
+      behind = subst (λ (x : Loan). HasFed x (bytes ++ chunk)) (sym (e .0)) (has-all l bytes chunk o h m);
+      answered =
+          ap (λ (x : Buffer). take (x .at) (x .bytes)) (e .1) ∙ ap (λ (k : ℕ). take k (w .bytes)) (sym n) ∙ wrote-all l bytes chunk o h m;
+    }
 
 -- a failure to read feeds nothing
 pub none-read : (l : Loan) (out input : List ℕ) → FeedsRead l out input l out 0 false

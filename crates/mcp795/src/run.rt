@@ -1,4 +1,5 @@
 // One tape, from a descriptor to standard output. All answers to what has been read are written before more is read.
+use tape::Feed;
 use tape::Tape;
 use text::bytes;
 ghost use Prim.Native.Nat.{_*_, _≤_};
@@ -34,6 +35,22 @@ fn write_answers(answers: &[u8]) -> bool {
     false
 }
 
+// Writes the answers that a call put at the output's beginning. There is more to read if the tape has more and standard output takes answers.
+fn put_out(fed: Feed, out: &[u8], more: bool) -> Reading
+    ensures { λ r. ⌜ (r .tape ≡ fed .tape) × (r .put ≡ fed .at) ⌝ }
+    ensures { λ r. ⌜ (more ≡ false → r .more ≡ false) ⌝ }
+{
+    let put = fed.at;
+    let open = write_answers(bytes::first(out, put));
+    let tape = fed.tape;
+    Reading {
+        tape,
+        put,
+        more: more & open,
+        open,
+    }
+}
+
 // Answers what was read.
 fn answer(
     chunk: &[u8],
@@ -49,15 +66,7 @@ fn answer(
         (loan (r .tape) (now (line .exit)) (now (eeprom .exit)) (now (id .exit))) (now (out .exit)) (r .put) ⌝ }
 {
     let fed = tape::chunk::feed(chunk, before, line, eeprom, id, out, 0);
-    let put = fed.at;
-    let open = write_answers(bytes::first(out, put));
-    let tape = fed.tape;
-    Reading {
-        tape,
-        put,
-        more: open,
-        open,
-    }
+    put_out(fed, out, true)
 }
 
 // The end of a tape: its last line may have no newline.
@@ -73,15 +82,7 @@ fn finish(
         (loan (r .tape) (now (line .exit)) (now (eeprom .exit)) (now (id .exit))) (now (out .exit)) (r .put) ⌝ }
 {
     let last = tape::chunk::finish(before, line, eeprom, id, out, 0);
-    let put = last.at;
-    let open = write_answers(bytes::first(out, put));
-    let tape = last.tape;
-    Reading {
-        tape,
-        put,
-        more: false,
-        open,
-    }
+    put_out(last, out, false)
 }
 
 // Reads once, and answers what came.

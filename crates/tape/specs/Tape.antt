@@ -149,9 +149,12 @@ lending l s =
 unfoldable pub buffersFit : ℕ → ℕ → ℕ → ℕ → Bool
 buffersFit begun line ee id = leb begun headLimit && eqb line headLimit && eqb ee eepromRoom && eqb id idSize
 
--- it is a tape: its buffers fit, and the acts may go on with its part and record
+-- With what is lent, by its lengths, it is a tape: the buffers fit, and the acts may go on with its part and record.
+abbrev pub tapeWith : Tape → ℕ → ℕ → ℕ → Bool
+tapeWith t line ee id = buffersFit (t .begun) line ee id && ready (t .part) (t .device)
+
 unfoldable pub isTape : Loan → Bool
-isTape l = buffersFit (l .tape .begun) (length (l .line)) (length (l .eeprom)) (length (l .id)) && ready (l .tape .part) (l .tape .device)
+isTape l = tapeWith (l .tape) (length (l .line)) (length (l .eeprom)) (length (l .id))
 
 -- the code's tape before its first byte
 abbrev pub startTape : Tape

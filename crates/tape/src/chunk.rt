@@ -8,7 +8,7 @@ use text::Kind;
 use text::buffer;
 use text::bytes;
 ghost use mathlib.Core.Path.{_≡_};
-ghost use mathlib.Core.Bool.{true, _&&_};
+ghost use mathlib.Core.Bool.{true};
 ghost use mathlib.Core.List.{_++_};
 ghost use Prim.Native.Nat.{_+_, _≤_};
 ghost use lib.ListN.{length, take};
@@ -16,7 +16,7 @@ ghost use Rattle.base.specs.Words.{over};
 ghost use Rattle.text.specs.Buffer.{buffer};
 ghost use Rattle.lines.specs.Print.{answerRoom};
 ghost use Rattle.answers.specs.Answer.{lineAnswer, Lent, ready, setupIn, heldBy, shownIn, shownBy};
-ghost use Rattle.tape.specs.Tape.{head, Headed, finished, putInto, takenFrom, loan, stateIn, buffersFit, isTape, gives, feedInto, finishInto, givenBy, startTape};
+ghost use Rattle.tape.specs.Tape.{head, Headed, finished, putInto, takenFrom, loan, stateIn, tapeWith, isTape, gives, feedInto, finishInto, givenBy, startTape};
 
 // T3. The head of a line: one character more than it may have tells that it is too long.
 pub const HEAD_LIMIT: usize = lines::line::LINE_LIMIT + 1;
@@ -132,7 +132,7 @@ fn feed_lines(
 
 // It is a tape: its buffers fit, by their lengths, and the acts may go on with its part and record.
 fn is_tape(tape: Tape, line: usize, eeprom: usize, id: usize) -> bool
-    ensures { λ r. ⌜ r ≡ (buffersFit (tape .begun) line eeprom id && ready (tape .part) (tape .device)) ⌝ }
+    ensures { λ r. ⌜ r ≡ tapeWith tape line eeprom id ⌝ }
 {
     let fit = (tape.begun <= HEAD_LIMIT)
         & (line == HEAD_LIMIT)
