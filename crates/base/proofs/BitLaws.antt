@@ -7,7 +7,7 @@ use native.Mathlib.Omega.{arith}
 use lib.Dec.{eqb, ltb}
 use borrow.Author.Tests.{eqb-true, eq-eqb, ltb-true, lt-ltb}
 use lib.Arith.{bin-ind}
-use lib.Bits.{bitAnd, bitOr, and-step, and-shr, and-le-l, or-step, or-shr, or-add-and}
+use lib.Bits.{bitAnd, bitOr, and-step, and-shr, and-comm, and-le-l, or-step, or-shr, or-add-and}
 use lib.Pow.{pow-pos}
 use lib.Count.{ones, onesIn}
 use Rattle.base.specs.Words.{every, bit, members}
@@ -55,6 +55,25 @@ and-assoc =
 -- a number under a mask that lies inside another is inside the other
 pub and-inside : (v w m : ℕ) → bitAnd w m ≡ w → bitAnd (bitAnd v w) m ≡ bitAnd v w
 and-inside v w m e = and-assoc v w m ∙ ap (bitAnd v) e
+
+-- an and goes into both parts of an or
+high-digit : (a b : ℕ) → bitOr a b % 2 ≡ max (a % 2) (b % 2)
+high-digit a b = omega (arith, or-step a b)
+
+pub and-or : (a b c : ℕ) → bitAnd (bitOr a b) c ≡ bitOr (bitAnd a c) (bitAnd b c)
+and-or =
+    bin-ind (λ (a : ℕ). (b c : ℕ) → bitAnd (bitOr a b) c ≡ bitOr (bitAnd a c) (bitAnd b c)) (λ b c. refl)
+    (λ a ih b c.
+    let h : bitAnd (bitOr a b / 2) (c / 2) ≡ bitOr (bitAnd a c / 2) (bitAnd b c / 2) =
+    simp (or-shr a b 1, and-shr a c 1, and-shr b c 1) (ih (b / 2) (c / 2)) in
+    and-step (bitOr a b) c ∙ omega (arith, h, high-digit a b, low-digit a c, low-digit b c) ∙ sym (or-step (bitAnd a c) (bitAnd b c)))
+
+-- so a number written over another under a mask is inside every mask that both lie inside
+pub over-inside : (old v w c m : ℕ) → bitAnd old m ≡ old → bitAnd w m ≡ w → bitAnd (bitOr (bitAnd old c) (bitAnd v w)) m ≡ bitOr (bitAnd old c) (bitAnd v w)
+over-inside old v w c m e f =
+    let p : bitAnd (bitAnd old c) m ≡ bitAnd old c =
+    and-assoc old c m ∙ ap (bitAnd old) (and-comm c m) ∙ sym (and-assoc old m c) ∙ ap (λ (n : ℕ). bitAnd n c) e in
+    and-or (bitAnd old c) (bitAnd v w) m ∙ (λ i. bitOr (p i) (and-inside v w m f i))
 
 -- bits of 0 and of a power of two
 pub zero-bit : (k : ℕ) → k < 8 → bit 0 k ≡ false

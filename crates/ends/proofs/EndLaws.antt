@@ -107,7 +107,7 @@ end-in-range part k d on r =
           (omega (arith, period-least (getD (d .regs) watchdogAt 0))) (r .clock .watchdog));
       frame = record { offset = r .frame .offset; place = record { id = omega arith; eeprom = omega arith } };
       cycle = cycle-in part k d r;
-      power = record { idle = λ o. refl; still = λ o. absurd (true-false on o); heard = λ h. refl };
+      power = record { unmarked = r .power .unmarked; idle = λ o. refl; still = λ o. absurd (true-false on o); heard = λ h. refl };
     }
 
 pub end-sized : (top k : ℕ) (d : Device) → Sized d → Sized (afterEnd top k d)

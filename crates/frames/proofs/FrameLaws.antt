@@ -236,7 +236,7 @@ moved-in-range part d s l on r p o h =
       clock = r .clock;
       frame = record { offset = o; place = p };
       cycle = r .cycle;
-      power = record { idle = λ off. absurd (true-false on off); still = r .power .still; heard = h };
+      power = record { unmarked = r .power .unmarked; idle = λ off. absurd (true-false on off); still = r .power .still; heard = h };
     }
 
 -- select leaves a record in range

@@ -7,12 +7,39 @@ use record::Lock;
 use record::Protection;
 use record::Stage;
 use record::Target;
+use record::registers;
+use record::registers::DAY;
+use record::registers::POWER_DOWN;
+use record::registers::POWER_UP;
+use record::registers::VBAT;
 use record::registers::WATCHDOG;
 use record::registers::WDTEN;
+use record::stamps;
 ghost use mathlib.Core.Path.{_≡_};
 ghost use Rattle.base.specs.Words.{members};
 ghost use Rattle.record.specs.Stored.{storedSet, storedCount};
-ghost use Rattle.power.specs.Power.{watchdogCut, forgotten, clockCut, protectionCut, afterCut, cutCount, afterUp};
+ghost use Rattle.power.specs.Power.{watchdogCut, takesStamp, failureStamped, forgotten, clockCut, protectionCut, afterCut, cutCount, returnStamped, afterUp};
+
+// A cut takes its time-stamp where the battery takes over and no earlier failure is held.
+fn takes_stamp(regs: [u8; 32]) -> bool
+    ensures { λ r. ⌜ r ≡ takesStamp regs ⌝ }
+{
+    let enabled = registers::battery_enabled(regs);
+    let held = registers::failure_held(regs);
+    enabled & !held
+}
+
+// On the battery: the time of the failure, and VBAT.
+fn failure_stamped(regs: [u8; 32]) -> [u8; 32]
+    ensures { λ r. ⌜ r ≡ failureStamped regs ⌝ }
+{
+    if registers::failure_held(regs) {
+        return regs;
+    }
+    let mut next = stamps::stamped_at(POWER_DOWN, regs);
+    next[DAY] = next[DAY] | VBAT;
+    next
+}
 
 // On the battery: the watchdog is stopped.
 fn watchdog_cut(d: Device) -> Device
@@ -44,9 +71,12 @@ fn clock_cut(d: Device) -> Device
     ensures { λ r. ⌜ r ≡ clockCut d ⌝ }
 {
     let regs = d.regs;
-    let keeps = record::registers::battery_enabled(regs);
+    let keeps = registers::battery_enabled(regs);
     if keeps {
-        return watchdog_cut(d);
+        let stamped = failure_stamped(regs);
+        let mut next = d;
+        next.regs = stamped;
+        return watchdog_cut(next);
     }
     forgotten_clock(d)
 }
@@ -70,6 +100,7 @@ pub fn after_cut(mask: u8, d: Device) -> Device
     ensures { λ r. ⌜ r ≡ afterCut mask d ⌝ }
 {
     let protection = protection_cut(mask, d);
+    let mark = takes_stamp(d.regs);
     let guard = Guard {
         wel: false,
         protection,
@@ -78,6 +109,7 @@ pub fn after_cut(mask: u8, d: Device) -> Device
     let frame = Frame { stage: Stage::Idle };
     let mut next = d;
     next.power = false;
+    next.mark = mark;
     next.guard = guard;
     next.frame = frame;
     next.cycle.left = 0;
@@ -114,10 +146,23 @@ pub fn cut_count(mask: u8, d: Device) -> u8
     stored_count(load, mask, target)
 }
 
+// Where the mark tells so, the time of the return.
+fn return_stamped(mark: bool, regs: [u8; 32]) -> [u8; 32]
+    ensures { λ r. ⌜ r ≡ returnStamped mark regs ⌝ }
+{
+    if mark {
+        return stamps::stamped_at(POWER_UP, regs);
+    }
+    regs
+}
+
 pub fn after_up(d: Device) -> Device
     ensures { λ r. ⌜ r ≡ afterUp d ⌝ }
 {
+    let regs = return_stamped(d.mark, d.regs);
     let mut next = d;
+    next.regs = regs;
     next.power = true;
+    next.mark = false;
     next
 }

@@ -1,5 +1,5 @@
 -- A35, A36. A fresh chip's record (fresh is 01's term): powered and idle; each register, SRAM byte and count is 0, save 01h in day, date and
--- month; STATUS is clear, the lock closed. The memories are no part of it: World has them.
+-- month; STATUS is clear, the lock closed, the mark of a power failure clear. The memories are no part of it: World has them.
 -- Assumes nothing.
 use Prim.Native.Nat.{ℕ}
 use mathlib.Core.Bool.{true, false}
@@ -29,6 +29,7 @@ fresh =
       sram = freshSram;
       counters = freshCounters;
       power = true;
+      mark = false;
       guard = record { wel = false; protection = Nothing; lock = Closed };
       frame = record { stage = Idle };
       load = record { offsets = 0; bytes = replicate 8 0; next = 0 };

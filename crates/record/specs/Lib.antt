@@ -1,5 +1,6 @@
 pub mod Part
 pub mod Registers
+pub mod Stamps
 pub mod Address
 pub mod Codes
 pub mod Stages

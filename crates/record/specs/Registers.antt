@@ -3,9 +3,9 @@
 -- Assumes nothing.
 use Prim.Native.Nat.{ℕ, _-_, _/_, _%_}
 use mathlib.Core.Bool.{Bool}
-use mathlib.Core.List.{List, [], _∷_}
+use mathlib.Core.List.{List, [], _∷_, _++_}
 use lib.Dec.{eqb}
-use lib.ListN.{getD}
+use lib.ListN.{getD, replicate}
 use Rattle.base.specs.Words.{bit}
 use Rattle.record.specs.declared.Counters.{Counters}
 
@@ -59,6 +59,13 @@ alarm0HoursAt = 0x0e
 abbrev pub alarm1HoursAt : ℕ
 alarm1HoursAt = 0x15
 
+-- the first register of each time-stamp, of four
+abbrev pub powerDownAt : ℕ
+powerDownAt = 0x18
+
+abbrev pub powerUpAt : ℕ
+powerUpAt = 0x1c
+
 -- The bits of the registers that a rule reads.
 
 -- 01h bit 7, ST; on B parts the sheet calls it CT
@@ -72,6 +79,10 @@ twelve regs = bit (getD regs hoursAt 0) 6
 -- 04h bit 3, VBATEN
 abbrev pub vbaten : List ℕ → Bool
 vbaten regs = bit (getD regs dayAt 0) 3
+
+-- 04h bit 4, VBAT: power failed and the battery took over
+abbrev pub vbat : List ℕ → Bool
+vbat regs = bit (getD regs dayAt 0) 4
 
 -- An alarm: the number of its enable bit in 08h (ALM0 is bit 4, ALM1 bit 5) and the register of its flag.
 abbrev pub alm0 : ℕ
@@ -107,17 +118,20 @@ wddel v = bit v 5
 abbrev pub wdtpls : ℕ → Bool
 wdtpls v = bit v 4
 
--- F13, C5. The bits of each register that WRITE may set, 00h to 1Fh.
-abbrev pub writable : List ℕ
-writable =
+-- F13. The bits of the registers 00h to 17h: what WRITE stores of each is all that it may hold.
+abbrev masks : List ℕ
+masks =
     0xff ∷ 0xff ∷ 0x7f ∷ 0xff ∷ 0x1f ∷ 0x3f ∷ 0x1f ∷ 0xff
     ∷ 0xff ∷ 0xff ∷ 0xff ∷ 0xff ∷ 0x7f ∷ 0x7f ∷ 0x3f ∷ 0xff
-    ∷ 0x3f ∷ 0x1f ∷ 0xff ∷ 0x7f ∷ 0x7f ∷ 0x3f ∷ 0xff ∷ 0x3f
-    ∷ 0 ∷ 0 ∷ 0 ∷ 0 ∷ 0 ∷ 0 ∷ 0 ∷ 0 ∷ []
+    ∷ 0x3f ∷ 0x1f ∷ 0xff ∷ 0x7f ∷ 0x7f ∷ 0x3f ∷ 0xff ∷ 0x3f ∷ []
 
--- F17. The bits that a register may hold, which number 6 judges: today those that WRITE may set.
+-- F13, C5. The bits of each register that WRITE stores, 00h to 1Fh: of a time-stamp none.
+abbrev pub writable : List ℕ
+writable = masks ++ replicate 8 0x00
+
+-- F17, C5. The bits that a register may hold, which number 6 judges: of a time-stamp all.
 abbrev pub kept : List ℕ
-kept = writable
+kept = masks ++ replicate 8 0xff
 
 -- K23. The watchdog's eight periods in ticks.
 abbrev pub periods : List ℕ

@@ -19,6 +19,7 @@ chip regs c =
       sram = replicate 64 7;
       counters = c;
       power = true;
+      mark = false;
       guard = record { wel = false; protection = Nothing; lock = Closed };
       frame = record { stage = Idle };
       load = record { offsets = 0; bytes = replicate 8 0; next = 0 };

@@ -12,33 +12,46 @@ use Rattle.record.specs.declared.Cycle.{Cycle}
 use Rattle.record.specs.declared.Protection.{Protection}
 use Rattle.record.specs.declared.Stage.{Stage}
 
-abbrev device : List ℕ → List ℕ → Counters → Bool → Guard → Stage → Load → Cycle → Device
-device regs sram counters power guard stage load cycle =
-    record { regs = regs; sram = sram; counters = counters; power = power; guard = guard; frame = record { stage = stage }; load = load; cycle = cycle }
+abbrev device : List ℕ → List ℕ → Counters → Bool → Bool → Guard → Stage → Load → Cycle → Device
+device regs sram counters power mark guard stage load cycle =
+    record {
+      regs = regs;
+      sram = sram;
+      counters = counters;
+      power = power;
+      mark = mark;
+      guard = guard;
+      frame = record { stage = stage };
+      load = load;
+      cycle = cycle;
+    }
 
 abbrev pub withRegs : Device → List ℕ → Device
-withRegs d regs = device regs (d .sram) (d .counters) (d .power) (d .guard) (d .frame .stage) (d .load) (d .cycle)
+withRegs d regs = device regs (d .sram) (d .counters) (d .power) (d .mark) (d .guard) (d .frame .stage) (d .load) (d .cycle)
 
 abbrev pub withSram : Device → List ℕ → Device
-withSram d sram = device (d .regs) sram (d .counters) (d .power) (d .guard) (d .frame .stage) (d .load) (d .cycle)
+withSram d sram = device (d .regs) sram (d .counters) (d .power) (d .mark) (d .guard) (d .frame .stage) (d .load) (d .cycle)
 
 abbrev pub withCounters : Device → Counters → Device
-withCounters d counters = device (d .regs) (d .sram) counters (d .power) (d .guard) (d .frame .stage) (d .load) (d .cycle)
+withCounters d counters = device (d .regs) (d .sram) counters (d .power) (d .mark) (d .guard) (d .frame .stage) (d .load) (d .cycle)
 
 abbrev pub withPower : Device → Bool → Device
-withPower d power = device (d .regs) (d .sram) (d .counters) power (d .guard) (d .frame .stage) (d .load) (d .cycle)
+withPower d power = device (d .regs) (d .sram) (d .counters) power (d .mark) (d .guard) (d .frame .stage) (d .load) (d .cycle)
+
+abbrev pub withMark : Device → Bool → Device
+withMark d mark = device (d .regs) (d .sram) (d .counters) (d .power) mark (d .guard) (d .frame .stage) (d .load) (d .cycle)
 
 abbrev pub withGuard : Device → Guard → Device
-withGuard d guard = device (d .regs) (d .sram) (d .counters) (d .power) guard (d .frame .stage) (d .load) (d .cycle)
+withGuard d guard = device (d .regs) (d .sram) (d .counters) (d .power) (d .mark) guard (d .frame .stage) (d .load) (d .cycle)
 
 abbrev pub withStage : Device → Stage → Device
-withStage d stage = device (d .regs) (d .sram) (d .counters) (d .power) (d .guard) stage (d .load) (d .cycle)
+withStage d stage = device (d .regs) (d .sram) (d .counters) (d .power) (d .mark) (d .guard) stage (d .load) (d .cycle)
 
 abbrev pub withLoad : Device → Load → Device
-withLoad d load = device (d .regs) (d .sram) (d .counters) (d .power) (d .guard) (d .frame .stage) load (d .cycle)
+withLoad d load = device (d .regs) (d .sram) (d .counters) (d .power) (d .mark) (d .guard) (d .frame .stage) load (d .cycle)
 
 abbrev pub withCycle : Device → Cycle → Device
-withCycle d cycle = device (d .regs) (d .sram) (d .counters) (d .power) (d .guard) (d .frame .stage) (d .load) cycle
+withCycle d cycle = device (d .regs) (d .sram) (d .counters) (d .power) (d .mark) (d .guard) (d .frame .stage) (d .load) cycle
 
 -- single counts; `counts` has them in the record's order: divider, start-up, and the watchdog's count, delay and pulse
 abbrev pub counts : ℕ → ℕ → ℕ → ℕ → ℕ → Counters

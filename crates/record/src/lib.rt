@@ -12,6 +12,7 @@ pub mod number; // number.rt: the numbers of the enums' cases
 pub mod part; // part.rt: the four parts
 pub mod registers; // registers.rt: the registers' addresses and masks, the limits
 pub mod stages; // stages.rt: what a stage and a cycle's target tell
+pub mod stamps; // stamps.rt: the time-stamps of a power failure
 
 // An address of the EEPROM.
 pub struct EepromAddress(pub u8);
@@ -156,6 +157,8 @@ pub struct Device {
     pub sram: [u8; 64],
     pub counters: Counters,
     pub power: bool,
+    // set by a cut that took a time-stamp, until power is up again
+    pub mark: bool,
     pub guard: Guard,
     pub frame: Frame,
     pub load: Load,
@@ -213,6 +216,7 @@ pub fn fresh_device() -> Device
         sram: [0u8; 64],
         counters,
         power: true,
+        mark: false,
         guard: Guard {
             wel: false,
             protection: Protection::Nothing,

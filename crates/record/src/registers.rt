@@ -1,7 +1,8 @@
 // The registers' addresses and masks, the watchdog's periods, and the limits, each named once.
+use crate::ClockAddress;
 use crate::Counters;
 ghost use mathlib.Core.Path.{_≡_};
-ghost use Rattle.record.specs.Registers.{periodOf, oscon, vbaten};
+ghost use Rattle.record.specs.Registers.{periodOf, oscon, vbaten, vbat};
 
 // Addresses by the sheet's names.
 pub const HUNDREDTHS: usize = 0x00;
@@ -37,6 +38,11 @@ pub const ALARM_1_HOURS: usize = 0x15;
 
 pub const ALARM_1: usize = 0x16;
 
+// The first register of each time-stamp.
+pub const POWER_DOWN: ClockAddress = ClockAddress(0x18);
+
+pub const POWER_UP: ClockAddress = ClockAddress(0x1c);
+
 // Bits by the sheet's names, each as its weight: a byte divided by it is odd where the bit is set. 01h:
 pub const ST: u8 = 0x80;
 
@@ -45,6 +51,8 @@ pub const TWELVE: u8 = 0x40;
 
 // 04h.
 pub const VBATEN: u8 = 0x08;
+
+pub const VBAT: u8 = 0x10;
 
 // 08h.
 pub const ALM_0: u8 = 0x10;
@@ -67,7 +75,7 @@ pub const ALM_CODE: u8 = 0x10;
 
 pub const ALM_IF: u8 = 0x08;
 
-// The bits of each register that WRITE may set, 00h to 1Fh.
+// The bits of each register that WRITE stores, 00h to 1Fh; of a time-stamp none.
 pub const WRITABLE: [u8; 32] = [
     0xff,
     0xff,
@@ -103,8 +111,41 @@ pub const WRITABLE: [u8; 32] = [
     0,
 ];
 
-// The bits that a register may hold: today those that WRITE may set.
-pub const KEPT: [u8; 32] = WRITABLE;
+// The bits that a register may hold; of a time-stamp all.
+pub const KEPT: [u8; 32] = [
+    0xff,
+    0xff,
+    0x7f,
+    0xff,
+    0x1f,
+    0x3f,
+    0x1f,
+    0xff,
+    0xff,
+    0xff,
+    0xff,
+    0xff,
+    0x7f,
+    0x7f,
+    0x3f,
+    0xff,
+    0x3f,
+    0x1f,
+    0xff,
+    0x7f,
+    0x7f,
+    0x3f,
+    0xff,
+    0x3f,
+    0xff,
+    0xff,
+    0xff,
+    0xff,
+    0xff,
+    0xff,
+    0xff,
+    0xff,
+];
 
 // The watchdog's periods in ticks, by bits 2:0 of 0Ah.
 const PERIODS: [u32; 8] = [32, 512, 2048, 4096, 32768, 524288, 1048576, 2097152];
@@ -151,4 +192,11 @@ pub fn battery_enabled(regs: [u8; 32]) -> bool
     ensures { λ r. ⌜ r ≡ vbaten regs ⌝ }
 {
     regs[DAY] / VBATEN % 2 == 1
+}
+
+// VBAT is set: power failed, and the battery took over.
+pub fn failure_held(regs: [u8; 32]) -> bool
+    ensures { λ r. ⌜ r ≡ vbat regs ⌝ }
+{
+    regs[DAY] / VBAT % 2 == 1
 }

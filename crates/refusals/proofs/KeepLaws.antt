@@ -1,20 +1,28 @@
 -- What keeps a record in range: a law for each count and for the registers, each with only what it changes to be shown; and that what leaves
--- frame, cycle and power alone keeps their part of the range.
+-- frame, cycle, power and mark alone keeps their part of the range.
 -- Assumes nothing.
-use Prim.Native.Nat.{ℕ, _<_, _≤_}
+use Prim.Native.Nat.{ℕ, _+_, _<_, _≤_}
 use native.Mathlib.Omega.{arith}
-use mathlib.Core.Path.{_≡_, refl, sym, subst}
+use mathlib.Core.Path.{_≡_, refl, sym, subst, _∙_}
 use mathlib.Core.Bool.{Bool, false}
 use mathlib.Core.List.{List}
-use lib.Bits.{bitAnd}
+use borrow.Author.Tests.{le-ltb}
+use lib.Bits.{bitAnd, and-le-r}
+use lib.Dec.{ltb}
 use lib.ListN.{getD, set}
+use Rattle.base.specs.Words.{pick, every}
+use Rattle.base.proofs.Tests.{no}
+use Rattle.base.proofs.Every.{same-below, bound-below}
+use Rattle.base.proofs.BitLaws.{below-mask}
 use Rattle.base.proofs.StoreLaws.{set-case}
 use Rattle.record.specs.declared.Device.{Device}
 use Rattle.record.specs.declared.Counters.{Counters}
 use Rattle.record.specs.declared.Guard.{Guard}
 use Rattle.record.specs.Part.{bootsOf}
-use Rattle.record.specs.Registers.{st, watchdogAt, kept, periodOf, startupTicks, dividerTicks, longPulse, delayTicks}
+use Rattle.record.specs.Registers.{st, minutesAt, dateAt, watchdogAt, powerDownAt, kept, periodOf, startupTicks, dividerTicks, longPulse, delayTicks}
 use Rattle.record.specs.Setters.{withRegs, withSram, withCounters, withDivider, withStartup, withWatchdog, withDelay, withPulse, withGuard, withLeft}
+use Rattle.record.specs.Stamps.{stamped, unstamped}
+use Rattle.record.proofs.StampLaws.{stamped-each, unstamped-each}
 use Rattle.refusals.specs.InRange.{ClockRange, InRange}
 
 -- the range of a device's registers and counts, and the three facts of it that read a register
@@ -62,9 +70,37 @@ module _ (boots : Bool) (d : Device) (r : ClockOf boots d) where
 pub set-inside : (regs : List ℕ) (a v : ℕ) → Inside a v → AllInside regs → AllInside (set regs a v)
 set-inside regs a v p q k h = set-case (Inside k) regs a k v (λ e. subst (λ (j : ℕ). Inside j v) (sym e) p) (q k h)
 
+-- of a time-stamp every byte is inside
+stamp-mask : (k : ℕ) → powerDownAt ≤ k → k < 32 → getD kept k 0 ≡ 0xff
+unfolding every
+stamp-mask k l h = no _ _ (le-ltb k powerDownAt l) ∙ same-below (λ (n : ℕ). pick (ltb n powerDownAt) 0xff (getD kept n 0)) (λ (n : ℕ). 0xff) 32 refl k h
+
+stamp-byte : (k v : ℕ) → powerDownAt ≤ k → k < 32 → v < 256 → Inside k v
+stamp-byte k v l h b = rw (stamp-mask k l h) (below-mask 8 (omega arith) v b b)
+
+-- what a register holds is a byte
+pub inside-byte : (k v : ℕ) → k < 32 → Inside k v → v < 256
+unfolding every
+inside-byte k v h i = omega (arith, i, and-le-r v (getD kept k 0), bound-below (λ (n : ℕ). getD kept n 0) 256 32 refl k h)
+
+-- so the time copied into a time-stamp, and both cleared, leave registers inside their masks
+pub stamped-inside : (a : ℕ) (regs : List ℕ) → powerDownAt ≤ a → a + 3 < 32 → AllInside regs → AllInside (stamped a regs)
+stamped-inside a regs l h i =
+    let b : (k : ℕ) → k < 32 → getD regs k 0 < 256 = λ k g. inside-byte k (getD regs k 0) g (i k g) in
+    stamped-each (λ k v. k < 32 → Inside k v) a regs
+    (λ g. stamp-byte a _ l g (b minutesAt (omega arith)))
+    (λ g. stamp-byte (a + 1) _ (omega arith) g (omega arith))
+    (λ g. stamp-byte (a + 2) _ (omega arith) g (b dateAt (omega arith)))
+    (λ g. stamp-byte (a + 3) _ (omega arith) g (omega arith))
+    i
+
+pub unstamped-inside : (regs : List ℕ) → AllInside regs → AllInside (unstamped regs)
+unstamped-inside regs = unstamped-each (λ k v. k < 32 → Inside k v) regs (λ k l h g. refl)
+
 -- e has all of d but registers, SRAM and counts
 pub record Beside (d e : Device) : Type 0 where
   pub power : e .power ≡ d .power
+  pub mark : e .mark ≡ d .mark
   pub guard : e .guard ≡ d .guard
   pub frame : e .frame ≡ d .frame
   pub load : e .load ≡ d .load
@@ -72,7 +108,7 @@ pub record Beside (d e : Device) : Type 0 where
 
 -- a device with other registers, SRAM and counts
 pub beside : (d : Device) {regs sram : List ℕ} {counters : Counters} → Beside d (withCounters (withSram (withRegs d regs) sram) counters)
-beside d = record { power = refl; guard = refl; frame = refl; load = refl; cycle = refl }
+beside d = record { power = refl; mark = refl; guard = refl; frame = refl; load = refl; cycle = refl }
 
 -- the other subjects read nothing else
 pub in-range-beside : (part : ℕ) (d e : Device) → InRange part d → Beside d e → ClockOf (bootsOf part) e → InRange part e
@@ -81,7 +117,7 @@ in-range-beside part d e r s k =
       clock = k;
       frame = rw (s .frame, s .load) (r .frame);
       cycle = rw (s .cycle) (r .cycle);
-      power = rw (s .power, s .frame, s .cycle) (r .power);
+      power = rw (s .power, s .mark, s .frame, s .cycle) (r .power);
     }
 
 -- the guard is judged by no row, and a countdown may fall
@@ -94,5 +130,5 @@ left-in part d k h r =
       clock = r .clock;
       frame = r .frame;
       cycle = record { countdown = omega (arith, r .cycle .countdown); place = r .cycle .place };
-      power = record { idle = r .power .idle; still = λ o. omega (arith, r .power .still o); heard = λ l. r .power .heard (omega arith) };
+      power = record { unmarked = r .power .unmarked; idle = r .power .idle; still = λ o. omega (arith, r .power .still o); heard = λ l. r .power .heard (omega arith) };
     }

@@ -32,7 +32,7 @@ use Rattle.record.proofs.CodeLaws.{same-code}
 use Rattle.record.proofs.StageLaws.{idle, not-idle}
 use Rattle.refusals.specs.Range.{insideMask, bitOutside, clockTests, frameTests, cycleTests, powerTests, clockOut, frameOut, cycleOut, powerOut, rangeTests, outOfRange}
 use Rattle.refusals.specs.InRange.{ClockRange, PlaceRange, FrameRange, CycleRange, PowerRange, InRange}
-use Rattle.refusals.specs.Rows.{Pointer, frame, cycle, Five, srread-five, read-five, write-five, clrwdt-five, clrram-five, RangeRow, divider, startup, countdown, pulse, delay, watchdog, offset, idPointer as idRow, eepromPointer as eepromRow, outside, stopped, unpowered, foreign}
+use Rattle.refusals.specs.Rows.{Pointer, frame, cycle, Five, srread-five, read-five, write-five, clrwdt-five, clrram-five, RangeRow, divider, startup, countdown, pulse, delay, watchdog, offset, idPointer as idRow, eepromPointer as eepromRow, outside, stopped, marked, unpowered, foreign}
 
 -- the first of a conjunction that fails holds: the second fails
 other-fails : {a b : Bool} → (a && b) ≡ false → a ≡ true → b ≡ false
@@ -68,12 +68,13 @@ cycle-range size y e =
     let (countdownOk, (id, (eeprom, _))) = none-holds (cycleTests size y) e in
     record { countdown = ltb-false cycleTicks (y .left) countdownOk; place = place-range size (cyclePlace (y .target)) id eeprom }
 
-power-range : (power : Bool) (s : Stage) (y : Cycle) → powerOut power s y ≡ false → PowerRange power s y
+power-range : (power mark : Bool) (s : Stage) (y : Cycle) → powerOut power mark s y ≡ false → PowerRange power mark s y
 unfolding powerOut
-power-range power s y e =
-    let (busyOk, (heardOk, _)) = none-holds (powerTests power s y) e in
+power-range power mark s y e =
+    let (markOk, (busyOk, (heardOk, _))) = none-holds (powerTests power mark s y) e in
     let off : power ≡ false → (selected s || ltb 0 (y .left)) ≡ false = λ o. other-fails busyOk (ap not o) in
     record {
+      unmarked = λ o. other-fails markOk o;
       idle = λ o. neither-left (selected s) (ltb 0 (y .left)) (off o);
       still = λ o. omega (arith, ltb-false 0 (y .left) (neither-right (selected s) (ltb 0 (y .left)) (off o)));
       heard = λ h. other-fails heardOk (lt-ltb 0 (y .left) h);
@@ -87,7 +88,7 @@ in-range part d e =
       clock = clock-range (bootsOf part) (d .regs) (d .counters) clockOk;
       frame = frame-range (sizeOf part) (d .frame .stage) (d .load) frameOk;
       cycle = cycle-range (sizeOf part) (d .cycle) cycleOk;
-      power = power-range (d .power) (d .frame .stage) (d .cycle) powerOk;
+      power = power-range (d .power) (d .mark) (d .frame .stage) (d .cycle) powerOk;
     }
 
 -- The five, in words.
@@ -147,6 +148,7 @@ module _ (part : ℕ) (d : Device) where
   no-row r (eepromRow {p} q a e h) = let i : eepromPointer p ≡ a .0 = ap eepromPointer e in omega (arith, pointed r q .eeprom)
   no-row r (outside k h n) = n (r .clock .inside k h)
   no-row r (stopped h w t) = omega (arith, r .clock .stopped (lt-leb 3 part (omega arith)) t)
+  no-row r (marked o m) = true-false m (r .power .unmarked o)
   no-row r (unpowered o (inl s)) = s (idle (d .frame .stage) (r .power .idle o))
   no-row r (unpowered o (inr h)) = omega (arith, r .power .still o)
   no-row r (foreign h e n) = true-false (foreign-test (d .frame .stage) e n) (r .power .heard h)
@@ -213,22 +215,25 @@ module _ (part : ℕ) (d : Device) where
         ),
       )
 
-  power-row : powerOut (d .power) (d .frame .stage) (d .cycle) ≡ true → RangeRow part d
+  power-row : powerOut (d .power) (d .mark) (d .frame .stage) (d .cycle) ≡ true → RangeRow part d
   unfolding powerOut
   power-row e =
       let s = d .frame .stage in
       let busy = ltb 0 (d .cycle .left) in
-      some-holds (powerTests (d .power) s (d .cycle)) e (
-        λ h.
-            unpowered (not-true (d .power) (both-left (not (d .power)) (selected s || busy) h))
-            (⊎-elim (λ l. inl (not-idle s l)) (λ l. inr (ltb-true 0 (d .cycle .left) l)) (either (selected s) busy (both-right (not (d .power)) (selected s || busy) h))),
+      some-holds (powerTests (d .power) (d .mark) s (d .cycle)) e (
+        λ h. marked (both-left (d .power) (d .mark) h) (both-right (d .power) (d .mark) h),
         (
           λ h.
-              let f = both-right busy (foreignToWip s) h in
-              let n = not-true (heardUnderWip (codeAt s)) (both-right (heard s) (not (heardUnderWip (codeAt s))) f) in
-              foreign (ltb-true 0 (d .cycle .left) (both-left busy (foreignToWip s) h)) (both-left (heard s) (not (heardUnderWip (codeAt s))) f)
-              (λ v. true-false (five-heard v) n),
-          tt,
+              unpowered (not-true (d .power) (both-left (not (d .power)) (selected s || busy) h))
+              (⊎-elim (λ l. inl (not-idle s l)) (λ l. inr (ltb-true 0 (d .cycle .left) l)) (either (selected s) busy (both-right (not (d .power)) (selected s || busy) h))),
+          (
+            λ h.
+                let f = both-right busy (foreignToWip s) h in
+                let n = not-true (heardUnderWip (codeAt s)) (both-right (heard s) (not (heardUnderWip (codeAt s))) f) in
+                foreign (ltb-true 0 (d .cycle .left) (both-left busy (foreignToWip s) h)) (both-left (heard s) (not (heardUnderWip (codeAt s))) f)
+                (λ v. true-false (five-heard v) n),
+            tt,
+          ),
         ),
       )
 
@@ -260,7 +265,7 @@ fresh-facts part =
           };
       frame = record { offset = omega arith; place = record { id = omega arith; eeprom = omega arith } };
       cycle = record { countdown = omega arith; place = record { id = omega arith; eeprom = omega arith } };
-      power = record { idle = λ o. refl; still = λ o. refl; heard = λ h. refl };
+      power = record { unmarked = λ o. refl; idle = λ o. refl; still = λ o. refl; heard = λ h. refl };
     }
 
 pub fresh-in-range : (part : ℕ) → isPart part ≡ true → outOfRange part fresh ≡ false

@@ -3,7 +3,7 @@
 -- Assumes nothing.
 use Prim.Native.Nat.{ℕ, _<_, _≤_}
 use mathlib.Core.Path.{_≡_}
-use mathlib.Core.Bool.{Bool, false}
+use mathlib.Core.Bool.{Bool, true, false}
 use mathlib.Core.List.{List}
 use lib.Bits.{bitAnd}
 use lib.ListN.{getD}
@@ -42,8 +42,9 @@ pub record CycleRange (size : ℕ) (y : Cycle) : Type 0 where
   pub countdown : y .left ≤ cycleTicks
   pub place : PlaceRange size (cyclePlace (y .target))
 
--- what power, frame and cycle say together
-pub record PowerRange (power : Bool) (s : Stage) (y : Cycle) : Type 0 where
+-- what power, mark, frame and cycle say together
+pub record PowerRange (power mark : Bool) (s : Stage) (y : Cycle) : Type 0 where
+  pub unmarked : power ≡ true → mark ≡ false
   pub idle : power ≡ false → selected s ≡ false
   pub still : power ≡ false → y .left ≡ 0
   pub heard : 0 < y .left → foreignToWip s ≡ false
@@ -53,4 +54,4 @@ pub record InRange (part : ℕ) (d : Device) : Type 0 where
   pub clock : ClockRange (bootsOf part) (d .regs) (d .counters)
   pub frame : FrameRange (sizeOf part) (d .frame .stage) (d .load)
   pub cycle : CycleRange (sizeOf part) (d .cycle)
-  pub power : PowerRange (d .power) (d .frame .stage) (d .cycle)
+  pub power : PowerRange (d .power) (d .mark) (d .frame .stage) (d .cycle)

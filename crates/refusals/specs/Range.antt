@@ -66,6 +66,10 @@ bitOutside regs = not (every (insideMask regs) 32)
 abbrev pub startupStopped : Bool → List ℕ → Counters → Bool
 startupStopped boots regs c = (not boots && not (st regs)) && ltb 0 (c .startup)
 
+-- A37. the mark of a power failure, with power on
+abbrev pub markedWithPower : Bool → Bool → Bool
+markedWithPower power mark = power && mark
+
 -- A29. no power, and a frame is open or a cycle runs
 abbrev pub busyWithoutPower : Bool → Stage → Cycle → Bool
 busyWithoutPower power s y = not power && (selected s || ltb 0 (y .left))
@@ -87,9 +91,9 @@ frameTests size s l = offsetAbove l ∷ idPointerAbove (framePlace s) ∷ eeprom
 abbrev pub cycleTests : ℕ → Cycle → List Bool
 cycleTests size y = countdownAbove y ∷ idPointerAbove (cyclePlace (y .target)) ∷ eepromPointerPast size (cyclePlace (y .target)) ∷ []
 
--- what power, frame and cycle say together
-abbrev pub powerTests : Bool → Stage → Cycle → List Bool
-powerTests power s y = busyWithoutPower power s y ∷ foreignFrame s y ∷ []
+-- what power, mark, frame and cycle say together
+abbrev pub powerTests : Bool → Bool → Stage → Cycle → List Bool
+powerTests power mark s y = markedWithPower power mark ∷ busyWithoutPower power s y ∷ foreignFrame s y ∷ []
 
 unfoldable pub clockOut : Bool → List ℕ → Counters → Bool
 clockOut boots regs c = anyOf (clockTests boots regs c)
@@ -100,8 +104,8 @@ frameOut size s l = anyOf (frameTests size s l)
 unfoldable pub cycleOut : ℕ → Cycle → Bool
 cycleOut size y = anyOf (cycleTests size y)
 
-unfoldable pub powerOut : Bool → Stage → Cycle → Bool
-powerOut power s y = anyOf (powerTests power s y)
+unfoldable pub powerOut : Bool → Bool → Stage → Cycle → Bool
+powerOut power mark s y = anyOf (powerTests power mark s y)
 
 -- the four subjects of a record
 abbrev pub rangeTests : ℕ → Device → List Bool
@@ -109,7 +113,7 @@ rangeTests part d =
     clockOut (bootsOf part) (d .regs) (d .counters)
     ∷ frameOut (sizeOf part) (d .frame .stage) (d .load)
     ∷ cycleOut (sizeOf part) (d .cycle)
-    ∷ powerOut (d .power) (d .frame .stage) (d .cycle)
+    ∷ powerOut (d .power) (d .mark) (d .frame .stage) (d .cycle)
     ∷ []
 
 -- number 6: some row holds

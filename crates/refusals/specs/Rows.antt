@@ -75,6 +75,8 @@ pub data RangeRow (part : ℕ) (d : Device) : Type 0 where
   outside : (k : ℕ) → k < 32 → bitAnd (getD (d .regs) k 0) (getD kept k 0) ≢ getD (d .regs) k 0 → RangeRow part d
   -- A28. a start-up count on a W part (1 and 2) that does not ask for its oscillator
   stopped : 0 < d .counters .startup → part ≤ 2 → st (d .regs) ≡ false → RangeRow part d
+  -- A37. a power failure is marked while there is power
+  marked : d .power ≡ true → d .mark ≡ true → RangeRow part d
   -- A29. a frame or a cycle without power
   unpowered : d .power ≡ false → Selected d ⊎ (0 < d .cycle .left) → RangeRow part d
   -- A30. a cycle, and an open frame that could not have been heard in it

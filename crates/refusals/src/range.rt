@@ -72,14 +72,14 @@ fn cycle_out(size: u16, cycle: Cycle) -> bool
     (CYCLE_TICKS < cycle.left) | (ID_LAST < id) | (size <= eeprom)
 }
 
-// What power, frame and cycle say together.
-fn power_out(power: bool, stage: Stage, cycle: Cycle) -> bool
-    ensures { λ r. ⌜ r ≡ powerOut power stage cycle ⌝ }
+// What power, mark, frame and cycle say together.
+fn power_out(power: bool, mark: bool, stage: Stage, cycle: Cycle) -> bool
+    ensures { λ r. ⌜ r ≡ powerOut power mark stage cycle ⌝ }
 {
     let busy = 0 < cycle.left;
     let open = stages::is_selected(stage);
     let foreign = stages::foreign_to_wip(stage);
-    (!power & (open | busy)) | (busy & foreign)
+    (power & mark) | (!power & (open | busy)) | (busy & foreign)
 }
 
 // Number 6.
@@ -97,5 +97,5 @@ pub fn out_of_range(part: u64, d: Device) -> bool
     clock_out(boots, regs, counters)
         | frame_out(size, stage, load)
         | cycle_out(size, cycle)
-        | power_out(d.power, stage, cycle)
+        | power_out(d.power, d.mark, stage, cycle)
 }

@@ -2,29 +2,21 @@
 -- Assumes nothing.
 use Prim.Native.Nat.{ℕ, _-_, _<_}
 use native.Mathlib.Omega.{arith}
-use mathlib.Core.Path.{refl}
 use mathlib.Core.Bool.{_||_}
 use borrow.Author.Tests.{ltb-true}
-use lib.Bits.{and-le-r, or-lt}
+use lib.Bits.{or-lt}
 use lib.Dec.{ltb, eqb}
 use lib.ListN.{getD}
-use Rattle.base.specs.Words.{every}
 use Rattle.base.proofs.Tests.{pick-case, pick-when}
-use Rattle.base.proofs.Every.{bound-below}
 use Rattle.calendar.specs.Date.{leapYear}
 use Rattle.record.specs.declared.ClockAddress.{ClockAddress}
 use Rattle.record.specs.declared.Device.{Device}
-use Rattle.record.specs.Registers.{twelve, oscon, dayAt, monthAt, yearAt, alarm0HoursAt, alarm1HoursAt, kept}
+use Rattle.record.specs.Registers.{twelve, oscon, dayAt, monthAt, yearAt, alarm0HoursAt, alarm1HoursAt}
 use Rattle.record.specs.World.{Bytes}
-use Rattle.refusals.proofs.KeepLaws.{Inside, AllInside}
+use Rattle.refusals.proofs.KeepLaws.{AllInside, inside-byte}
 use Rattle.registers.specs.Read.{made, readClock}
 
--- each mask is a byte, and so is what lies inside it
-inside-byte : (k v : ℕ) → k < 32 → Inside k v → v < 256
-unfolding every
-inside-byte k v h i = omega (arith, i, and-le-r v (getD kept k 0), bound-below (λ (n : ℕ). getD kept n 0) 256 32 refl k h)
-
--- so are the made bits, and the two together
+-- the made bits are a byte, and so are they with the stored ones
 made-byte : (d : Device) (a : ℕ) → made d a < 256
 made-byte d a =
     let P : ℕ → Type 0 = λ n. n < 256 in

@@ -4,32 +4,34 @@ use mathlib.Core.Path.{_≡_, refl, sym, ap, subst, _∙_}
 use mathlib.Core.Bool.{Bool, false, not, _&&_}
 use mathlib.Core.List.{List}
 use mathlib.Core.Logic.{_≢_}
-use Prim.Native.Nat.{ℕ, _<_, _≤_}
+use Prim.Native.Nat.{ℕ, _-_, _<_, _≤_}
 use native.Mathlib.Omega.{arith}
 use borrow.Author.Tests.{ltb-true, eqb-true, eqb-false}
-use lib.Bits.{bitAnd}
+use lib.Bits.{bitAnd, and-comm}
 use lib.Dec.{ltb, eqb}
 use lib.ListN.{length, getD, set, length-set}
+use lib.Seq.{getD-set-other}
 use Rattle.base.specs.Words.{bit, every}
 use Rattle.base.proofs.Tests.{pick-case, pick-when, true-false}
 use Rattle.base.proofs.Every.{same-below}
-use Rattle.base.proofs.BitLaws.{and-inside}
+use Rattle.base.proofs.BitLaws.{and-assoc, over-inside}
 use Rattle.base.proofs.StoreLaws.{set-case}
 use Rattle.record.specs.declared.Device.{Device}
 use Rattle.record.specs.declared.ClockAddress.{ClockAddress}
 use Rattle.record.specs.Part.{bootsOf}
-use Rattle.record.specs.Registers.{st, wdten, wdtif, wddel, secondsAt, watchdogAt, writable, kept, periodOf, delayTicks}
+use Rattle.record.specs.Registers.{st, vbat, wdten, wdtif, wddel, secondsAt, dayAt, watchdogAt, powerDownAt, writable, kept, periodOf, delayTicks}
 use Rattle.record.specs.Setters.{withRegs, withSram, withStartup, withWatchdog, withDelay}
 use Rattle.record.proofs.PeriodLaws.{period-least}
+use Rattle.record.proofs.StampLaws.{unstamped-length, unstamped-other}
 use Rattle.refusals.specs.InRange.{InRange}
-use Rattle.refusals.proofs.KeepLaws.{ClockOf, Inside, AllInside, Paced, Halted, startup-in, watchdog-in, delay-in, regs-in, set-inside, Beside, beside, in-range-beside}
-use Rattle.registers.specs.Write.{delayAfter, afterWrite, writeClock}
+use Rattle.refusals.proofs.KeepLaws.{ClockOf, Inside, AllInside, Paced, Halted, startup-in, watchdog-in, delay-in, regs-in, set-inside, unstamped-inside, Beside, beside, in-range-beside}
+use Rattle.registers.specs.Write.{delayAfter, dayWritten, afterWrite, underMask, writeClock}
 
--- What holds of what each kind of WRITE leaves, holds of what WRITE leaves: a register's write with no further effect, with the oscillator
--- stopped, with the watchdog restarted; an SRAM byte; nothing.
+-- What holds of what each kind of WRITE leaves, holds of what WRITE leaves: a register's write with what follows from it; an SRAM byte; nothing.
 pub write-case :
     (P : Device → Type 0) (boots : Bool) (d : Device) (a : ClockAddress) (v : ℕ)
-    → ((s : ℕ) → a .0 < 32 → s ≡ bitAnd v (getD writable (a .0) 0) → P (afterWrite boots (a .0) (withRegs d (set (d .regs) (a .0) s))))
+    → ((s : ℕ) → a .0 < 32 → s ≡ underMask (getD writable (a .0) 0) (getD (d .regs) (a .0) 0) v
+      → P (afterWrite boots (vbat (d .regs)) (a .0) (withRegs d (set (d .regs) (a .0) s))))
     → ((k : ℕ) → P (withSram d (set (d .sram) k v))) → P d → P (writeClock boots d a v)
 unfolding writeClock
 write-case P boots d a v p q r =
@@ -42,22 +44,33 @@ write-beside boots d a v =
     write-case (Beside d) boots d a v
     (λ s h e.
     pick-case (Beside d) (eqb (a .0) secondsAt) (pick-case (Beside d) (not boots && not (st (set (d .regs) (a .0) s))) (beside d) (beside d))
-    (pick-case (Beside d) (eqb (a .0) watchdogAt) (beside d) (beside d)))
+    (pick-case (Beside d) (eqb (a .0) dayAt) (beside d)
+    (pick-case (Beside d) (eqb (a .0) watchdogAt) (beside d) (beside d))))
     (λ k. beside d) (beside d)
 
--- what follows from a write changes no register and no SRAM byte
-after-same : (boots : Bool) (a : ℕ) (d : Device) → (afterWrite boots a d .regs ≡ d .regs) × (afterWrite boots a d .sram ≡ d .sram)
+-- what follows from a write is a matter of counts and, at 04h, of VBAT and the time-stamps: no SRAM byte changes, and of other registers none
+after-case :
+    (P : List ℕ → Type 0) (boots had : Bool) (a : ℕ) (d : Device) → P (d .regs) → (a ≡ dayAt → P (dayWritten had (d .regs)))
+    → P (afterWrite boots had a d .regs) × (afterWrite boots had a d .sram ≡ d .sram)
 unfolding afterWrite
-after-same boots a d =
-    let P : Device → Type 0 = λ e. (e .regs ≡ d .regs) × (e .sram ≡ d .sram) in
-    pick-case P (eqb a secondsAt) (pick-case P (not boots && not (st (d .regs))) (refl, refl) (refl, refl))
-    (pick-case P (eqb a watchdogAt) (refl, refl) (refl, refl))
+after-case P boots had a d p q =
+    let Q : Device → Type 0 = λ e. P (e .regs) × (e .sram ≡ d .sram) in
+    pick-case Q (eqb a secondsAt) (pick-case Q (not boots && not (st (d .regs))) (p, refl) (p, refl))
+    (pick-when Q (eqb a dayAt) (λ t. (q (eqb-true a dayAt t), refl)) (λ t. pick-case Q (eqb a watchdogAt) (p, refl) (p, refl)))
+
+day-length : (had : Bool) (regs : List ℕ) → length (dayWritten had regs) ≡ length regs
+day-length had regs =
+    let P : List ℕ → Type 0 = λ l. length l ≡ length regs in
+    pick-case P (vbat regs) (pick-case P had refl (length-set regs dayAt _)) (unstamped-length regs)
 
 -- so that there are as many registers,
 pub write-regs-length : (boots : Bool) (d : Device) (a : ClockAddress) (v : ℕ) → length (writeClock boots d a v .regs) ≡ length (d .regs)
 write-regs-length boots d a v =
     write-case (λ (e : Device). length (e .regs) ≡ length (d .regs)) boots d a v
-    (λ s h e. ap length (after-same boots (a .0) (withRegs d (set (d .regs) (a .0) s)) .0) ∙ length-set (d .regs) (a .0) s)
+    (λ s h e.
+    let n = length-set (d .regs) (a .0) s in
+    after-case (λ (l : List ℕ). length l ≡ length (d .regs)) boots (vbat (d .regs)) (a .0) (withRegs d (set (d .regs) (a .0) s)) n
+    (λ q. day-length (vbat (d .regs)) (set (d .regs) (a .0) s) ∙ n) .0)
     (λ k. refl) refl
 
 -- and what holds of the SRAM, and of it with the byte stored, holds of the SRAM after WRITE
@@ -66,20 +79,36 @@ pub write-sram :
     → P (writeClock boots d a v .sram)
 write-sram P boots d a v p q =
     write-case (λ (e : Device). P (e .sram)) boots d a v
-    (λ s h e. subst P (sym (after-same boots (a .0) (withRegs d (set (d .regs) (a .0) s)) .1)) p) q p
+    (λ s h e. subst P (sym (after-case (λ (l : List ℕ). Unit {0}) boots (vbat (d .regs)) (a .0) (withRegs d (set (d .regs) (a .0) s)) tt (λ z. tt) .1)) p) q p
 
--- what WRITE stores is inside its mask: the writable bits are among those that a register may hold
-pub written-inside : (a v : ℕ) → a < 32 → Inside a (bitAnd v (getD writable a 0))
+-- what WRITE stores is inside its mask: the writable bits are among those that a register may hold, and the others were
+pub written-inside : (a old v : ℕ) → a < 32 → Inside a old → Inside a (underMask (getD writable a 0) old v)
 unfolding every
-written-inside a v h =
-    and-inside v (getD writable a 0) (getD kept a 0)
+written-inside a old v h i =
+    over-inside old v (getD writable a 0) (255 - getD writable a 0) (getD kept a 0) i
     (same-below (λ (k : ℕ). bitAnd (getD writable k 0) (getD kept k 0)) (λ (k : ℕ). getD writable k 0) 32 refl a h)
+
+-- at 04h what follows is inside the masks too
+day-inside : (had : Bool) (regs : List ℕ) → AllInside regs → AllInside (dayWritten had regs)
+day-inside had regs i =
+    pick-case AllInside (vbat regs)
+    (pick-case AllInside had i
+    (set-inside regs dayAt (bitAnd (getD regs dayAt 0) 0xef)
+    (and-assoc (getD regs dayAt 0) 0xef 0x1f ∙ ap (bitAnd (getD regs dayAt 0)) (and-comm 0xef 0x1f) ∙ sym (and-assoc (getD regs dayAt 0) 0x1f 0xef)
+    ∙ ap (λ (n : ℕ). bitAnd n 0xef) (i dayAt (omega arith))) i))
+    (unstamped-inside regs i)
+
+-- and leaves the registers below 18h but 04h alone
+day-other : (had : Bool) (regs : List ℕ) (k : ℕ) → k < powerDownAt → k ≢ dayAt → getD (dayWritten had regs) k 0 ≡ getD regs k 0
+day-other had regs k h n =
+    let P : List ℕ → Type 0 = λ l. getD l k 0 ≡ getD regs k 0 in
+    pick-case P (vbat regs) (pick-case P had refl (getD-set-other regs dayAt k _ 0 n)) (unstamped-other regs k h)
 
 -- a stored register and what follows from it
 after-write-in :
-    (boots : Bool) (a s : ℕ) (d : Device) → Inside a s → ClockOf boots d → ClockOf boots (afterWrite boots a (withRegs d (set (d .regs) a s)))
+    (boots had : Bool) (a s : ℕ) (d : Device) → Inside a s → ClockOf boots d → ClockOf boots (afterWrite boots had a (withRegs d (set (d .regs) a s)))
 unfolding afterWrite
-after-write-in boots a s d i r =
+after-write-in boots had a s d i r =
     let regs : List ℕ = set (d .regs) a s in
     let still : AllInside regs = set-inside (d .regs) a s i (r .inside) in
     let paced : a ≢ watchdogAt → Paced (d .counters) regs =
@@ -94,6 +123,13 @@ after-write-in boots a s d i r =
     (λ t. regs-in boots d r regs still (paced n) (λ b o. absurd (true-false (simp (b, o)) t))))
     (λ e.
     let m : a ≢ secondsAt = eqb-false a secondsAt e in
+    pick-when (ClockOf boots) (eqb a dayAt)
+    (λ q.
+    let n : a ≢ watchdogAt = λ z. omega (arith, eqb-true a dayAt q) in
+    regs-in boots d r (dayWritten had regs) (day-inside had regs still)
+    (subst (λ (v : ℕ). d .counters .watchdog < periodOf v) (sym (day-other had regs watchdogAt (omega arith) (λ z. omega arith))) (paced n))
+    (subst (λ (v : ℕ). boots ≡ false → bit v 7 ≡ false → d .counters .startup ≡ 0) (sym (day-other had regs secondsAt (omega arith) (λ z. omega arith))) (halted m)))
+    (λ q.
     pick-when (ClockOf boots) (eqb a watchdogAt)
     (λ q.
     let v : ℕ = getD regs watchdogAt 0 in
@@ -101,7 +137,7 @@ after-write-in boots a s d i r =
     regs-in boots (withDelay (withWatchdog d 0) (delayAfter v))
     (delay-in boots (withWatchdog d 0) (watchdog-in boots d r 0 (omega (arith, period-least (getD (d .regs) watchdogAt 0)))) (delayAfter v) l)
     regs still (omega (arith, period-least v)) (halted m))
-    (λ q. regs-in boots d r regs still (paced (eqb-false a watchdogAt q)) (halted m)))
+    (λ q. regs-in boots d r regs still (paced (eqb-false a watchdogAt q)) (halted m))))
 
 -- WRITE keeps a record in range, at every address and of every value
 pub write-in-range :
@@ -109,5 +145,6 @@ pub write-in-range :
 write-in-range part d a v r =
     in-range-beside part d (writeClock (bootsOf part) d a v) r (write-beside (bootsOf part) d a v)
     (write-case (ClockOf (bootsOf part)) (bootsOf part) d a v
-    (λ s h e. after-write-in (bootsOf part) (a .0) s d (rw e (written-inside (a .0) v h)) (r .clock))
+    (λ s h e.
+    after-write-in (bootsOf part) (vbat (d .regs)) (a .0) s d (rw e (written-inside (a .0) (getD (d .regs) (a .0) 0) v h (r .clock .inside (a .0) h))) (r .clock))
     (λ k. r .clock) (r .clock))

@@ -29,7 +29,7 @@ countsAfter boots a v =
 pub BlockShown : Type 0
 BlockShown =
     -- F13. masks
-    (wroteAll 0x02 ≡ 0x7f) × (wroteAll 0x04 ≡ 0x1f) × (wroteAll 0x06 ≡ 0x1f) × (wroteAll 0x0e ≡ 0x3f) × (wroteAll 0x18 ≡ 0x00)
+    (wroteAll 0x02 ≡ 0x7f) × (wroteAll 0x04 ≡ 0x0f) × (wroteAll 0x06 ≡ 0x1f) × (wroteAll 0x0e ≡ 0x3f) × (wroteAll 0x18 ≡ 0x00)
     -- F15. OSCON from the 32nd start-up tick on, in bit 5
     × (readAt (chip started (counts 0 31 0 0 0)) 0x04 ≡ 0x00)
     × (readAt (chip started (counts 0 32 0 0 0)) 0x04 ≡ 0x20)

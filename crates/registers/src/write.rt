@@ -1,17 +1,21 @@
 // What WRITE does at an address of the clock block.
 use record::ClockAddress;
 use record::Device;
+use record::registers;
+use record::registers::DAY;
 use record::registers::DELAY_TICKS;
 use record::registers::SECONDS;
 use record::registers::ST;
+use record::registers::VBAT;
 use record::registers::WATCHDOG;
 use record::registers::WDDEL;
 use record::registers::WDTEN;
 use record::registers::WDTIF;
 use record::registers::WRITABLE;
+use record::stamps;
 ghost use mathlib.Core.Path.{_≡_};
 ghost use Prim.Native.Nat.{_<_};
-ghost use Rattle.registers.specs.Write.{delayAfter, afterWrite, writeRegister, writeClock};
+ghost use Rattle.registers.specs.Write.{delayAfter, dayWritten, afterWrite, underMask, writeRegister, writeClock};
 
 // The delay that a value of 0Ah sets.
 fn delay_after(v: u8) -> u32
@@ -24,9 +28,25 @@ fn delay_after(v: u8) -> u32
     }
 }
 
-// What follows from a register's write: 01h may stop the oscillator, 0Ah restarts the watchdog.
-fn after_write(boots: bool, at: ClockAddress, d: Device) -> Device
-    ensures { λ r. ⌜ r ≡ afterWrite boots (at .0) d ⌝ }
+// The registers after a write of 04h: a 0 clears VBAT and both time-stamps, a 1 leaves VBAT what it was.
+fn day_written(had: bool, regs: [u8; 32]) -> [u8; 32]
+    ensures { λ r. ⌜ r ≡ dayWritten had regs ⌝ }
+{
+    let written = registers::failure_held(regs);
+    if written {
+        if had {
+            return regs;
+        }
+        let mut next = regs;
+        next[DAY] = regs[DAY] & !VBAT;
+        return next;
+    }
+    stamps::cleared(regs)
+}
+
+// What follows from a register's write: 01h may stop the oscillator, 04h may clear VBAT, 0Ah restarts the watchdog.
+fn after_write(boots: bool, had: bool, at: ClockAddress, d: Device) -> Device
+    ensures { λ r. ⌜ r ≡ afterWrite boots had (at .0) d ⌝ }
 {
     let a = at.0 as usize;
     if a == SECONDS {
@@ -39,6 +59,12 @@ fn after_write(boots: bool, at: ClockAddress, d: Device) -> Device
         }
         return d;
     }
+    if a == DAY {
+        let regs = day_written(had, d.regs);
+        let mut next = d;
+        next.regs = regs;
+        return next;
+    }
     if a == WATCHDOG {
         let mut counters = d.counters;
         counters.watchdog = 0;
@@ -50,15 +76,24 @@ fn after_write(boots: bool, at: ClockAddress, d: Device) -> Device
     d
 }
 
+// A byte written over another under a mask: what the mask leaves out keeps its value.
+fn under_mask(mask: u8, old: u8, v: u8) -> u8
+    ensures { λ r. ⌜ r ≡ underMask mask old v ⌝ }
+{
+    (old & (255 - mask)) | (v & mask)
+}
+
 // WRITE to a register, under its mask.
 fn write_register(boots: bool, d: Device, at: ClockAddress, v: u8) -> Device
     requires { ⌜ at .0 < 32 ⌝ }
     ensures { λ r. ⌜ r ≡ writeRegister boots d (at .0) v ⌝ }
 {
     let i = at.0 as usize;
+    let had = registers::failure_held(d.regs);
+    let stored = under_mask(WRITABLE[i], d.regs[i], v);
     let mut next = d;
-    next.regs[i] = v & WRITABLE[i];
-    after_write(boots, at, next)
+    next.regs[i] = stored;
+    after_write(boots, had, at, next)
 }
 
 // From 60h up a WRITE is dropped (bench).

@@ -33,6 +33,7 @@ only-then p q =
       others =
           record {
             power = q .others .power ∙ p .others .power;
+            mark = q .others .mark ∙ p .others .mark;
             guard = q .others .guard ∙ p .others .guard;
             frame = q .others .frame ∙ p .others .frame;
             load = q .others .load ∙ p .others .load;

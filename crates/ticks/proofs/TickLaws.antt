@@ -34,19 +34,21 @@ tick-device boots w = pick-map (λ (x : World). x .device) (alive (w .device)) _
 pub record Steady (d e : Device) : Type 0 where
   pub sram : e .sram ≡ d .sram
   pub power : e .power ≡ d .power
+  pub mark : e .mark ≡ d .mark
   pub frame : e .frame ≡ d .frame
   pub load : e .load ≡ d .load
   pub target : e .cycle .target ≡ d .cycle .target
   pub lock : e .guard .lock ≡ d .guard .lock
 
 pub steady : (d : Device) → Steady d d
-steady d = record { sram = refl; power = refl; frame = refl; load = refl; target = refl; lock = refl }
+steady d = record { sram = refl; power = refl; mark = refl; frame = refl; load = refl; target = refl; lock = refl }
 
 pub steady-then : {d e f : Device} → Steady d e → Steady e f → Steady d f
 steady-then p q =
     record {
       sram = q .sram ∙ p .sram;
       power = q .power ∙ p .power;
+      mark = q .mark ∙ p .mark;
       frame = q .frame ∙ p .frame;
       load = q .load ∙ p .load;
       target = q .target ∙ p .target;
@@ -67,7 +69,7 @@ step-of :
     → g .lock ≡ d .guard .lock → CycleStep last d (withGuard (withLeft d k) g)
 step-of last d g k left wel protection lock =
     record {
-      still = record { sram = refl; power = refl; frame = refl; load = refl; target = refl; lock = lock };
+      still = record { sram = refl; power = refl; mark = refl; frame = refl; load = refl; target = refl; lock = lock };
       regs = refl;
       left = left;
       wel = wel;
@@ -104,6 +106,7 @@ only-steady k =
     record {
       sram = k .sram;
       power = k .others .power;
+      mark = k .others .mark;
       frame = k .others .frame;
       load = k .others .load;
       target = ap (λ (y : Cycle). y .target) (k .others .cycle);

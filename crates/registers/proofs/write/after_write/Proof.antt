@@ -16,15 +16,20 @@ returns-2 c = simp (c .if2 .left, eq-eqb _ _ (c .before .before .if1 .taken))
 
 returns-3 : tie.Need-returns-3
 unfolding afterWrite
-returns-3 c = simp (c .delay-after .ensures, eq-eqb _ _ (c .before .before .before .if3 .taken), ne-eqb _ _ (c .before .before .before .before .if1 .left))
+returns-3 c = simp (c .day-written .ensures, eq-eqb _ _ (c .before .before .if3 .taken), ne-eqb _ _ (c .before .before .before .if1 .left))
 
 returns-4 : tie.Need-returns-4
 unfolding afterWrite
-returns-4 c = simp (ne-eqb _ _ (c .if3 .left), ne-eqb _ _ (c .before .if1 .left))
+returns-4 c = simp (c .delay-after .ensures, eq-eqb _ _ (c .before .before .before .if4 .taken), ne-eqb _ _ (c .before .before .before .before .if3 .left), ne-eqb _ _ (c .before .before .before .before .before .if1 .left))
+
+returns-5 : tie.Need-returns-5
+unfolding afterWrite
+returns-5 c = simp (ne-eqb _ _ (c .if4 .left), ne-eqb _ _ (c .before .if3 .left), ne-eqb _ _ (c .before .before .if1 .left))
 
 pub after-write-spec : {M : Type 1} → statement M
 unfolding afterWrite
 after-write-spec =
     tie.close
     (tie.spec
-    (λ c. search needs) (λ c. search needs) returns returns-2 (λ c. search needs) (λ c κs. search needs) returns-3 returns-4)
+    (λ c. search needs) (λ c. search needs) returns returns-2 (λ c κs. search needs) returns-3 (λ c. search needs) (λ c κs. search needs) returns-4
+    returns-5)
