@@ -2,19 +2,21 @@
 -- Assumes nothing.
 use Prim.Native.Nat.{ℕ, _+_, _%_, _<_, _≤_}
 use native.Mathlib.Omega.{arith}
-use mathlib.Core.Path.{_≡_, refl, sym}
-use mathlib.Core.Bool.{Bool, true, false, true≢false}
+use mathlib.Core.Path.{_≡_, refl, sym, ap, subst, _∙_}
+use mathlib.Core.Bool.{Bool, true, false, true≢false, false≢true}
+use mathlib.Core.Logic.{inl, _≢_}
 use mathlib.Core.List.{List}
-use lib.Bits.{bitAnd, and-le-r}
+use lib.Bits.{bitAnd, bitOr, and-le-r}
 use lib.Count.{ones, ones-le}
 use lib.Dec.{eqb}
 use lib.ListN.{length, getD, set, length-set}
+use lib.Seq.{getD-set-other}
 use mir.Val.{Fits}
 use mir.Syntax.{w8}
 use Rattle.base.specs.Words.{every, bit, flag, members, changes}
-use Rattle.base.proofs.Tests.{pick-case, flag-below}
+use Rattle.base.proofs.Tests.{pick-case, pick-when, flag-below}
 use Rattle.base.proofs.Every.{same-below}
-use Rattle.base.proofs.BitLaws.{count-ones, members-most, below-mask}
+use Rattle.base.proofs.BitLaws.{count-ones, members-most, below-mask, and-or}
 use Rattle.base.proofs.StoreLaws.{set-case, store-changes}
 use Rattle.record.specs.declared.Device.{Device}
 use Rattle.record.specs.declared.EepromAddress.{EepromAddress}
@@ -25,16 +27,18 @@ use Rattle.record.specs.declared.Target.the-variants.{Eeprom, Id, Status}
 use Rattle.record.specs.Address.{pageOf}
 use Rattle.record.specs.Fresh.{fresh}
 use Rattle.record.specs.Part.{bootsOf}
-use Rattle.record.specs.Registers.{vbaten, secondsAt, watchdogAt}
-use Rattle.record.specs.Setters.{withWatchdog, withDelay, withPulse, withPower}
+use Rattle.record.specs.Registers.{vbaten, vbat, secondsAt, dayAt, watchdogAt, powerDownAt, powerUpAt, periodOf}
+use Rattle.record.specs.Stamps.{stamped}
+use Rattle.record.specs.Setters.{withRegs, withWatchdog, withDelay, withPulse}
 use Rattle.record.specs.Stored.{storedSet, storedCount, storePage}
 use Rattle.record.specs.World.{World, Sized}
 use Rattle.record.proofs.PeriodLaws.{period-least}
+use Rattle.record.proofs.StampLaws.{stamped-other, stamped-length}
 use Rattle.record.proofs.WorldLaws.{sized-by, replicate-bytes, eeprom-case, id-case}
 use Rattle.refusals.specs.InRange.{InRange}
 use Rattle.refusals.proofs.RangeLaws.{fresh-facts}
-use Rattle.refusals.proofs.KeepLaws.{ClockOf, Beside, beside, watchdog-in, delay-in, pulse-in, regs-in, set-inside, in-range-beside}
-use Rattle.power.specs.Power.{watchdogCut, forgotten, stoppedBy, afterCut, cutCount, cutWorld, afterUp}
+use Rattle.refusals.proofs.KeepLaws.{ClockOf, AllInside, Beside, beside, watchdog-in, delay-in, pulse-in, regs-in, set-inside, stamped-inside, in-range-beside}
+use Rattle.power.specs.Power.{watchdogCut, failureStamped, forgotten, stoppedBy, afterCut, cutCount, cutWorld, returnStamped, afterUp}
 
 -- The ones of the loaded offsets under a mask are the offsets that are stored.
 under-mask : (offsets mask : ℕ) → mask < 256 → bitAnd offsets mask < 256
@@ -52,12 +56,17 @@ unfolding every
 first-bit m h = same-below (λ (n : ℕ). n % 2) (λ (n : ℕ). flag (bit n 0)) 256 refl m h
 
 -- What holds of both ends of the clock holds of a cut; beside the clock a cut is what it stops.
-pub cut-case : (P : Device → Type 0) (mask : ℕ) (d : Device) → P (watchdogCut (stoppedBy mask d)) → P (forgotten (stoppedBy mask d)) → P (afterCut mask d)
+abbrev batteryCut : ℕ → Device → Device
+batteryCut mask d = watchdogCut (withRegs (stoppedBy mask d) (failureStamped (d .regs)))
+
+pub cut-case :
+    (P : Device → Type 0) (mask : ℕ) (d : Device) → (vbaten (d .regs) ≡ true → P (batteryCut mask d))
+    → (vbaten (d .regs) ≡ false → P (forgotten (stoppedBy mask d))) → P (afterCut mask d)
 unfolding afterCut
-cut-case P mask d p q = pick-case P (vbaten (d .regs)) p q
+cut-case P mask d p q = pick-when P (vbaten (d .regs)) p q
 
 pub cut-beside : (mask : ℕ) (d : Device) → Beside (stoppedBy mask d) (afterCut mask d)
-cut-beside mask d = cut-case (Beside (stoppedBy mask d)) mask d (beside (stoppedBy mask d)) (beside (stoppedBy mask d))
+cut-beside mask d = cut-case (Beside (stoppedBy mask d)) mask d (λ t. beside (stoppedBy mask d)) (λ t. beside (stoppedBy mask d))
 
 -- A cut leaves a record in range, whatever its mask.
 stopped-in-range : (part mask : ℕ) (d : Device) → InRange part d → InRange part (stoppedBy mask d)
@@ -66,7 +75,7 @@ stopped-in-range part mask d r =
       clock = r .clock;
       frame = record { offset = r .frame .offset; place = record { id = omega arith; eeprom = omega arith } };
       cycle = record { countdown = omega arith; place = r .cycle .place };
-      power = record { idle = λ o. refl; still = λ o. refl; heard = λ h. refl };
+      power = record { unmarked = λ o. absurd (false≢true o); idle = λ o. refl; still = λ o. refl; heard = λ h. refl };
     }
 
 watchdog-cut-in : (boots : Bool) (d : Device) → ClockOf boots d → ClockOf boots (watchdogCut d)
@@ -82,17 +91,45 @@ watchdog-cut-in boots d r =
     (omega (arith, period-least (getD (set (d .regs) watchdogAt v) watchdogAt 0)))
     (set-case (λ (x : ℕ). boots ≡ false → bit x 7 ≡ false → d .counters .startup ≡ 0) (d .regs) watchdogAt secondsAt v (λ q. absurd (omega arith)) (r .stopped))
 
+-- The time-stamp of a failure, and VBAT: inside their masks, and beside what the counts read.
+failure-inside : (regs : List ℕ) → AllInside regs → AllInside (failureStamped regs)
+failure-inside regs i =
+    let l : List ℕ = stamped powerDownAt regs in
+    let j : AllInside l = stamped-inside powerDownAt regs (omega arith) (omega arith) i in
+    pick-case AllInside (vbat regs) i
+    (set-inside l dayAt (bitOr (getD l dayAt 0) 0x10) (and-or (getD l dayAt 0) 0x10 0x1f ∙ ap (λ (n : ℕ). bitOr n 0x10) (j dayAt (omega arith))) j)
+
+pub failure-other : (regs : List ℕ) (k : ℕ) → k < powerDownAt → k ≢ dayAt → getD (failureStamped regs) k 0 ≡ getD regs k 0
+failure-other regs k h n =
+    pick-case (λ (l : List ℕ). getD l k 0 ≡ getD regs k 0) (vbat regs) refl
+    (getD-set-other (stamped powerDownAt regs) dayAt k _ 0 n ∙ stamped-other powerDownAt regs k (inl h))
+
+failure-length : (regs : List ℕ) → length (failureStamped regs) ≡ length regs
+failure-length regs =
+    pick-case (λ (l : List ℕ). length l ≡ length regs) (vbat regs) refl
+    (length-set (stamped powerDownAt regs) dayAt _ ∙ stamped-length powerDownAt regs)
+
+failure-in : (boots : Bool) (d : Device) → ClockOf boots d → ClockOf boots (withRegs d (failureStamped (d .regs)))
+failure-in boots d r =
+    let regs : List ℕ = d .regs in
+    regs-in boots d r (failureStamped regs) (failure-inside regs (r .inside))
+    (subst (λ (v : ℕ). d .counters .watchdog < periodOf v) (sym (failure-other regs watchdogAt (omega arith) (λ e. omega arith))) (r .watchdog))
+    (subst (λ (v : ℕ). boots ≡ false → bit v 7 ≡ false → d .counters .startup ≡ 0) (sym (failure-other regs secondsAt (omega arith) (λ e. omega arith))) (r .stopped))
+
 pub cut-in-range : (part mask : ℕ) (d : Device) → InRange part d → InRange part (afterCut mask d)
 unfolding fresh
 cut-in-range part mask d r =
+    let boots : Bool = bootsOf part in
     in-range-beside part (stoppedBy mask d) (afterCut mask d) (stopped-in-range part mask d r) (cut-beside mask d)
-    (cut-case (ClockOf (bootsOf part)) mask d (watchdog-cut-in (bootsOf part) (stoppedBy mask d) (r .clock)) (fresh-facts part .clock))
+    (cut-case (ClockOf boots) mask d
+    (λ t. watchdog-cut-in boots (withRegs (stoppedBy mask d) (failureStamped (d .regs))) (failure-in boots (stoppedBy mask d) (r .clock)))
+    (λ t. fresh-facts part .clock))
 
 pub cut-sized : (mask : ℕ) (d : Device) → Sized d → Sized (afterCut mask d)
 cut-sized mask d z =
     cut-case Sized mask d
-    (sized-by d (watchdogCut (stoppedBy mask d)) (length-set (d .regs) watchdogAt _) refl refl z)
-    (record {
+    (λ t. sized-by d (batteryCut mask d) (length-set (failureStamped (d .regs)) watchdogAt _ ∙ failure-length (d .regs)) refl refl z)
+    (λ t. record {
       regs = refl;
       sram = refl;
       bytes = z .bytes;
@@ -144,16 +181,30 @@ module _ (mask : ℕ) (w : World) (runs : eqb (w .device .cycle .left) 0 ≡ fal
   cut-counts-id a t o = rw (runs, t) (sym (store-changes (w .id) (pageOf (a .0)) (storedSet (w .device .load) mask) (w .device .load .bytes) 8 (o .0) (o .1)))
 
 -- power up leaves a record in range
+pub return-other : (mark : Bool) (regs : List ℕ) (k : ℕ) → k < powerUpAt → getD (returnStamped mark regs) k 0 ≡ getD regs k 0
+return-other mark regs k h = pick-case (λ (l : List ℕ). getD l k 0 ≡ getD regs k 0) mark (stamped-other powerUpAt regs k (inl h)) refl
+
+return-in : (boots mark : Bool) (d : Device) → ClockOf boots d → ClockOf boots (withRegs d (returnStamped mark (d .regs)))
+return-in boots mark d r =
+    let regs : List ℕ = d .regs in
+    regs-in boots d r (returnStamped mark regs)
+    (pick-case AllInside mark (stamped-inside powerUpAt regs (omega arith) (omega arith) (r .inside)) (r .inside))
+    (subst (λ (v : ℕ). d .counters .watchdog < periodOf v) (sym (return-other mark regs watchdogAt (omega arith))) (r .watchdog))
+    (subst (λ (v : ℕ). boots ≡ false → bit v 7 ≡ false → d .counters .startup ≡ 0) (sym (return-other mark regs secondsAt (omega arith))) (r .stopped))
+
 pub up-in-range : (part : ℕ) (d : Device) → InRange part d → InRange part (afterUp d)
 unfolding afterUp
 up-in-range part d r =
     record {
-      clock = r .clock;
+      clock = return-in (bootsOf part) (d .mark) d (r .clock);
       frame = r .frame;
       cycle = r .cycle;
-      power = record { idle = λ o. absurd (true≢false o); still = λ o. absurd (true≢false o); heard = r .power .heard };
+      power = record { unmarked = λ o. refl; idle = λ o. absurd (true≢false o); still = λ o. absurd (true≢false o); heard = r .power .heard };
     }
+
+return-length : (mark : Bool) (regs : List ℕ) → length (returnStamped mark regs) ≡ length regs
+return-length mark regs = pick-case (λ (l : List ℕ). length l ≡ length regs) mark (stamped-length powerUpAt regs) refl
 
 pub up-sized : (d : Device) → Sized d → Sized (afterUp d)
 unfolding afterUp
-up-sized d = sized-by d (withPower d true) refl refl refl
+up-sized d = sized-by d (afterUp d) (return-length (d .mark) (d .regs)) refl refl

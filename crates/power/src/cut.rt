@@ -100,7 +100,8 @@ pub fn after_cut(mask: u8, d: Device) -> Device
     ensures { λ r. ⌜ r ≡ afterCut mask d ⌝ }
 {
     let protection = protection_cut(mask, d);
-    let mark = takes_stamp(d.regs);
+    let regs = d.regs;
+    let mark = takes_stamp(regs);
     let guard = Guard {
         wel: false,
         protection,
@@ -159,9 +160,10 @@ fn return_stamped(mark: bool, regs: [u8; 32]) -> [u8; 32]
 pub fn after_up(d: Device) -> Device
     ensures { λ r. ⌜ r ≡ afterUp d ⌝ }
 {
-    let regs = return_stamped(d.mark, d.regs);
+    let regs = d.regs;
+    let stamped = return_stamped(d.mark, regs);
     let mut next = d;
-    next.regs = regs;
+    next.regs = stamped;
     next.power = true;
     next.mark = false;
     next

@@ -1,7 +1,7 @@
 -- Time-stamps of a power failure, as registers: how the time is copied into one, how both are cleared, how VBAT is set and cleared, and what a time-stamp
 -- shows. Not when.
 -- Assumes nothing.
-use Prim.Native.Nat.{ℕ, _+_, _*_, _/_, _%_}
+use Prim.Native.Nat.{ℕ, _+_, _*_, _/_, _%_, _≤_}
 use mathlib.Core.Path.{_≡_}
 use mathlib.Core.List.{List}
 use lib.Bits.{bitAnd, bitOr}
@@ -28,6 +28,10 @@ withVbat regs = set regs dayAt (bitOr (getD regs dayAt 0) 0x10)
 
 abbrev pub withoutVbat : List ℕ → List ℕ
 withoutVbat regs = set regs dayAt (bitAnd (getD regs dayAt 0) 0xef)
+
+-- P17. the registers of both time-stamps are the same
+abbrev pub SameStamps : List ℕ → List ℕ → Type 0
+SameStamps regs regs′ = (k : ℕ) → powerDownAt ≤ k → getD regs′ k 0 ≡ getD regs k 0
 
 -- P12. The time-stamp from a shows the time of other registers, in words apart from the copy: each of its fields is where the sheet's map has it, and no
 -- bit beside them is set.

@@ -49,7 +49,7 @@ write-beside boots d a v =
     (λ k. beside d) (beside d)
 
 -- what follows from a write is a matter of counts and, at 04h, of VBAT and the time-stamps: no SRAM byte changes, and of other registers none
-after-case :
+pub after-case :
     (P : List ℕ → Type 0) (boots had : Bool) (a : ℕ) (d : Device) → P (d .regs) → (a ≡ dayAt → P (dayWritten had (d .regs)))
     → P (afterWrite boots had a d .regs) × (afterWrite boots had a d .sram ≡ d .sram)
 unfolding afterWrite

@@ -13,9 +13,9 @@ use Rattle.base.proofs.Tests.{pick-case}
 use Rattle.base.proofs.StoreLaws.{set-each}
 use Rattle.calendar.specs.declared.Time.{Time}
 use Rattle.calendar.specs.Time.{advanced}
-use Rattle.calendar.proofs.TimeLaws.{TimeEach, timeBytes, each-of, st-stays, vbaten-stays}
+use Rattle.calendar.proofs.TimeLaws.{TimeEach, timeBytes, each-of, st-stays, vbaten-stays, vbat-stays}
 use Rattle.record.specs.declared.Device.{Device}
-use Rattle.record.specs.Registers.{st, vbaten, secondsAt, dayAt, alarm0At, alarm1At}
+use Rattle.record.specs.Registers.{st, vbaten, vbat, secondsAt, dayAt, alarm0At, alarm1At}
 use Rattle.record.specs.Setters.{withRegs}
 use Rattle.ticks.specs.Clock.{timeOf, withTime, running, due, dividerTick, calendarTick, alarmTick}
 use Rattle.ticks.proofs.AlarmLaws.{alarmed-each, alarmed-length}
@@ -95,7 +95,7 @@ pub clock-other :
 clock-other counted d k h a b =
     clock-register (λ (v : ℕ). v ≡ getD (d .regs) k 0) counted d k (λ l. absurd (omega arith)) (λ e. absurd (⊎-elim a b e)) refl
 
--- a bit of a time register that the calendar leaves stays; so ST and VBATEN
+-- a bit of a time register that the calendar leaves stays; so ST, VBATEN and VBAT
 clock-bit :
     (counted : Bool) (d : Device) (a k : ℕ) → a < 8
     → bit (getD (timeBytes (advanced (timeOf (d .regs)) .time)) a 0) k ≡ bit (getD (d .regs) a 0) k
@@ -114,6 +114,11 @@ pub clock-vbaten :
     (counted : Bool) (d : Device)
     → vbaten (alarmTick counted d (calendarTick counted d) .regs) ≡ vbaten (d .regs)
 clock-vbaten counted d = clock-bit counted d dayAt 3 (omega arith) (vbaten-stays (timeOf (d .regs)))
+
+pub clock-vbat :
+    (counted : Bool) (d : Device)
+    → vbat (alarmTick counted d (calendarTick counted d) .regs) ≡ vbat (d .regs)
+clock-vbat counted d = clock-bit counted d dayAt 4 (omega arith) (vbat-stays (timeOf (d .regs)))
 
 -- the number of registers
 with-time-length : (regs : List ℕ) (t : Time) → length (withTime regs t) ≡ length regs

@@ -5,4 +5,5 @@ pub mod ClockLaws
 pub mod KeepLaws
 pub mod RangeLaws
 pub mod TickLaws
+pub mod StampLaws
 pub mod WaitLaws

@@ -14,15 +14,16 @@ use Rattle.base.proofs.StoreLaws.{set-case}
 use Rattle.record.specs.declared.Device.{Device}
 use Rattle.record.specs.declared.Cycle.{Cycle}
 use Rattle.record.specs.declared.Guard.{Guard}
-use Rattle.record.specs.Registers.{vbaten, oscon, dayAt, watchdogAt, periodOf}
+use Rattle.record.specs.Registers.{vbaten, vbat, oscon, dayAt, watchdogAt, periodOf}
 use Rattle.record.specs.Setters.{withGuard, withLeft}
 use Rattle.record.specs.World.{World}
 use Rattle.record.specs.Stored.{wholeMask, eepromAfter, idAfter, protectionAfter}
 use Rattle.ticks.specs.Oscillator.{starting, oscillatorTick}
 use Rattle.ticks.specs.Watchdog.{counting, watchdogTick}
+use Rattle.ticks.specs.Clock.{calendarTick, alarmTick}
 use Rattle.ticks.specs.Tick.{cycleDevice, cycleTick, clockwork, alive, tick}
 use Rattle.ticks.specs.RecordTick.{deviceTick, ends}
-use Rattle.ticks.proofs.ClockLaws.{clock-vbaten, clock-regs-length}
+use Rattle.ticks.proofs.ClockLaws.{clock-vbaten, clock-vbat, clock-regs-length}
 use Rattle.ticks.proofs.KeepLaws.{ClockOnly, clockwork-keeps}
 
 -- the record's part of a tick
@@ -150,7 +151,7 @@ unfolding tick
 tick-dead boots w a = simp a
 
 -- What the watchdog's part does to the registers: nothing, or it sets WDTIF.
-watchdog-case :
+pub watchdog-case :
     (P : List ℕ → Type 0) (counted : Bool) (d : Device) → P (d .regs) → ((v : ℕ) → P (set (d .regs) watchdogAt v)) → P (watchdogTick counted d .regs)
 unfolding watchdogTick
 watchdog-case P counted d p q =
@@ -160,20 +161,30 @@ watchdog-case P counted d p q =
     (pick-case Q (ltb (d .counters .watchdog + 1) (periodOf (getD (d .regs) watchdogAt 0))) p (q _)))
     p
 
-oscillator-regs : (boots : Bool) (d : Device) → oscillatorTick boots d .regs ≡ d .regs
+pub oscillator-regs : (boots : Bool) (d : Device) → oscillatorTick boots d .regs ≡ d .regs
 unfolding oscillatorTick
 oscillator-regs boots d = pick-case (λ (e : Device). e .regs ≡ d .regs) (starting boots d) refl refl
 
--- VBATEN stays, and so a chip that is alive is alive after a tick
-clockwork-vbaten : (boots : Bool) (d : Device) → vbaten (clockwork boots d .regs) ≡ vbaten (d .regs)
+-- a bit of 04h that calendar and alarms leave stays: VBATEN and VBAT
+clockwork-bit :
+    (k : ℕ) → ((c : Bool) (d : Device) → bit (getD (alarmTick c d (calendarTick c d) .regs) dayAt 0) k ≡ bit (getD (d .regs) dayAt 0) k)
+    → (boots : Bool) (d : Device) → bit (getD (clockwork boots d .regs) dayAt 0) k ≡ bit (getD (d .regs) dayAt 0) k
 unfolding clockwork
-clockwork-vbaten boots d =
+clockwork-bit k stays boots d =
     let o : Device = oscillatorTick boots d in
     let c : Bool = oscon (d .counters) in
-    clock-vbaten c (watchdogTick c o)
-    ∙ watchdog-case (λ (l : List ℕ). vbaten l ≡ vbaten (o .regs)) c o refl
-    (λ v. set-case (λ (x : ℕ). bit x 3 ≡ vbaten (o .regs)) (o .regs) watchdogAt dayAt v (λ e. absurd (omega arith)) refl)
-    ∙ ap vbaten (oscillator-regs boots d)
+    let old : Bool = bit (getD (o .regs) dayAt 0) k in
+    stays c (watchdogTick c o)
+    ∙ watchdog-case (λ (l : List ℕ). bit (getD l dayAt 0) k ≡ old) c o refl
+    (λ v. set-case (λ (x : ℕ). bit x k ≡ old) (o .regs) watchdogAt dayAt v (λ e. absurd (omega arith)) refl)
+    ∙ ap (λ (l : List ℕ). bit (getD l dayAt 0) k) (oscillator-regs boots d)
+
+-- so a chip that is alive is alive after a tick
+clockwork-vbaten : (boots : Bool) (d : Device) → vbaten (clockwork boots d .regs) ≡ vbaten (d .regs)
+clockwork-vbaten = clockwork-bit 3 clock-vbaten
+
+pub clockwork-vbat : (boots : Bool) (d : Device) → vbat (clockwork boots d .regs) ≡ vbat (d .regs)
+clockwork-vbat = clockwork-bit 4 clock-vbat
 
 pub device-alive : (boots : Bool) (d : Device) → alive (deviceTick boots d) ≡ alive d
 unfolding deviceTick

@@ -1,0 +1,133 @@
+-- What WRITE does to the time-stamps and to VBAT: a 0 for VBAT clears all three, and nothing else changes a time-stamp; a 1 leaves VBAT what it
+-- was, and no other register has to do with it.
+-- Assumes nothing.
+use mathlib.Core.Path.{_≡_, refl, sym, ap, _∙_}
+use mathlib.Core.Bool.{Bool, true, false, _&&_, _||_, and-false}
+use mathlib.Core.List.{List}
+use mathlib.Core.Logic.{_≢_}
+use Prim.Native.Nat.{ℕ, _<_, _≤_}
+use native.Mathlib.Omega.{arith}
+use borrow.Author.Tests.{le-ltb}
+use lib.Bits.{bitAnd, and-zero-r, or-zero-r}
+use lib.Dec.{ltb}
+use lib.ListN.{length, getD, set, length-set}
+use lib.Seq.{getD-set-same, getD-set-other}
+use Rattle.base.specs.Words.{pick, bit, every}
+use Rattle.base.proofs.Tests.{pick-case, pick-when, yes, no}
+use Rattle.base.proofs.Every.{same-below}
+use Rattle.base.proofs.BitLaws.{and-bit, or-bit, below-mask}
+use Rattle.base.proofs.StoreLaws.{set-case}
+use Rattle.record.specs.declared.Device.{Device}
+use Rattle.record.specs.declared.ClockAddress.{ClockAddress}
+use Rattle.record.specs.Registers.{vbat, dayAt, powerDownAt, writable}
+use Rattle.record.specs.Setters.{withRegs}
+use Rattle.record.specs.Stamps.{unstamped, withoutVbat, SameStamps}
+use Rattle.record.proofs.StampLaws.{unstamped-other, unstamped-zero}
+use Rattle.refusals.proofs.KeepLaws.{AllInside, inside-byte}
+use Rattle.registers.specs.Write.{dayWritten, afterWrite, underMask, writeClock}
+use Rattle.registers.proofs.WriteLaws.{write-case, after-case}
+
+-- Of a time-stamp nothing is written.
+stamp-writable : (k : ℕ) → powerDownAt ≤ k → k < 32 → getD writable k 0 ≡ 0
+unfolding every
+stamp-writable k l h = no _ _ (le-ltb k powerDownAt l) ∙ same-below (λ (n : ℕ). pick (ltb n powerDownAt) 0 (getD writable n 0)) (λ (n : ℕ). 0) 32 refl k h
+
+under-none : (old v : ℕ) → old < 256 → underMask 0 old v ≡ old
+under-none old v h = simp (and-zero-r v, or-zero-r (bitAnd old 255)) (below-mask 8 (omega arith) old h h)
+
+stamp-stored : (k old v : ℕ) → powerDownAt ≤ k → k < 32 → old < 256 → underMask (getD writable k 0) old v ≡ old
+stamp-stored k old v l h b = ap (λ (m : ℕ). underMask m old v) (stamp-writable k l h) ∙ under-none old v b
+
+-- Of 04h VBAT is what was written, before what follows.
+one-of : (a b : Bool) → ((a && false) || (b && true)) ≡ b
+one-of true true = refl
+one-of true false = refl
+one-of false true = refl
+one-of false false = refl
+
+under-vbat : (old v : ℕ) → bit (underMask 0x1f old v) 4 ≡ bit v 4
+under-vbat old v =
+    or-bit (bitAnd old 0xe0) (bitAnd v 0x1f) 4 ∙ (λ i. and-bit old 0xe0 4 i || and-bit v 0x1f 4 i) ∙ one-of (bit old 4) (bit v 4)
+
+-- the registers with the byte in 04h
+abbrev dayStored : List ℕ → ℕ → List ℕ
+dayStored regs v = set regs dayAt (underMask 0x1f (getD regs dayAt 0) v)
+
+stored-vbat : (regs : List ℕ) (v : ℕ) → dayAt < length regs → vbat (dayStored regs v) ≡ bit v 4
+stored-vbat regs v l = ap (λ (n : ℕ). bit n 4) (getD-set-same regs dayAt _ 0 l) ∙ under-vbat (getD regs dayAt 0) v
+
+without : (regs : List ℕ) → dayAt < length regs → vbat (withoutVbat regs) ≡ false
+without regs l =
+    ap (λ (n : ℕ). bit n 4) (getD-set-same regs dayAt _ 0 l) ∙ and-bit (getD regs dayAt 0) 0xef 4 ∙ and-false (bit (getD regs dayAt 0) 4)
+
+-- what WRITE leaves at 04h
+write-day :
+    (boots : Bool) (d : Device) (a : ClockAddress) (v : ℕ) → a .0 ≡ dayAt
+    → writeClock boots d a v .regs ≡ dayWritten (vbat (d .regs)) (dayStored (d .regs) v)
+unfolding writeClock afterWrite
+write-day boots d a v e = ap (λ (b : ClockAddress). writeClock boots d b v .regs) (λ i. record { 0 = e i })
+
+module _ (boots : Bool) (d : Device) (a : ClockAddress) (v : ℕ) (l : length (d .regs) ≡ 32) where
+  there : dayAt < length (d .regs)
+  there = omega (arith, l)
+
+  -- a 0 for VBAT
+  pub write-clears :
+      a .0 ≡ dayAt → bit v 4 ≡ false
+      → (vbat (writeClock boots d a v .regs) ≡ false) × ((k : ℕ) → powerDownAt ≤ k → k < 32 → getD (writeClock boots d a v .regs) k 0 ≡ 0)
+  write-clears e z =
+      let regs : List ℕ = dayStored (d .regs) v in
+      let f : vbat regs ≡ false = stored-vbat (d .regs) v there ∙ z in
+      let g : writeClock boots d a v .regs ≡ unstamped regs = write-day boots d a v e ∙ sym (no (pick (vbat (d .regs)) regs (withoutVbat regs)) (unstamped regs) f) in (
+        ap vbat g ∙ ap (λ (n : ℕ). bit n 4) (unstamped-other regs dayAt (omega arith)) ∙ f,
+        λ k m h. ap (λ (x : List ℕ). getD x k 0) g ∙ unstamped-zero regs k m h,
+      )
+
+  -- a 1 for it
+  pub write-leaves-vbat : a .0 ≡ dayAt → bit v 4 ≡ true → vbat (writeClock boots d a v .regs) ≡ vbat (d .regs)
+  write-leaves-vbat e o =
+      let regs : List ℕ = dayStored (d .regs) v in
+      let had : Bool = vbat (d .regs) in
+      let t : vbat regs ≡ true = stored-vbat (d .regs) v there ∙ o in
+      let g : writeClock boots d a v .regs ≡ pick had regs (withoutVbat regs) =
+      write-day boots d a v e ∙ sym (yes (pick had regs (withoutVbat regs)) (unstamped regs) t) in
+      ap vbat g
+      ∙ pick-when (λ (x : List ℕ). vbat x ≡ had) had (λ p. t ∙ sym p)
+      (λ p. without regs (omega (arith, there, length-set (d .regs) dayAt (underMask 0x1f (getD (d .regs) dayAt 0) v))) ∙ sym p)
+
+  -- another register, SRAM or what lies above it
+  pub write-other-vbat : a .0 ≢ dayAt → vbat (writeClock boots d a v .regs) ≡ vbat (d .regs)
+  write-other-vbat n =
+      let P : List ℕ → Type 0 = λ x. vbat x ≡ vbat (d .regs) in
+      write-case (λ (e : Device). P (e .regs)) boots d a v
+      (λ s h e.
+      after-case P boots (vbat (d .regs)) (a .0) (withRegs d (set (d .regs) (a .0) s))
+      (ap (λ (x : ℕ). bit x 4) (getD-set-other (d .regs) (a .0) dayAt s 0 (λ q. n (sym q)))) (λ q. absurd (n q)) .0)
+      (λ k. refl) refl
+
+  -- what is no 0 for VBAT changes no time-stamp
+  pub write-stamps : AllInside (d .regs) → ¬ ((a .0 ≡ dayAt) × (bit v 4 ≡ false)) → SameStamps (d .regs) (writeClock boots d a v .regs)
+  write-stamps i c =
+      write-case (λ (e : Device). SameStamps (d .regs) (e .regs)) boots d a v
+      (λ s h e. stored s h e) (λ k j g. refl) (λ j g. refl)
+    where
+      set-same : (s : ℕ) → a .0 < 32 → s ≡ underMask (getD writable (a .0) 0) (getD (d .regs) (a .0) 0) v → SameStamps (d .regs) (set (d .regs) (a .0) s)
+      set-same s h e k g =
+          set-case (λ (x : ℕ). x ≡ getD (d .regs) k 0) (d .regs) (a .0) k s
+          (λ q. e ∙ stamp-stored (a .0) (getD (d .regs) (a .0) 0) v (omega arith) h (inside-byte (a .0) _ h (i (a .0) h)) ∙ ap (λ (j : ℕ). getD (d .regs) j 0) (sym q))
+          refl
+
+      stored : (s : ℕ) → a .0 < 32 → s ≡ underMask (getD writable (a .0) 0) (getD (d .regs) (a .0) 0) v
+          → SameStamps (d .regs) (afterWrite boots (vbat (d .regs)) (a .0) (withRegs d (set (d .regs) (a .0) s)) .regs)
+      stored s h e =
+          let regs : List ℕ = set (d .regs) (a .0) s in
+          after-case (SameStamps (d .regs)) boots (vbat (d .regs)) (a .0) (withRegs d regs) (set-same s h e)
+          (λ q.
+          let g : regs ≡ dayStored (d .regs) v =
+          ap (λ (x : ℕ). set (d .regs) (a .0) x) e ∙ ap (λ (j : ℕ). set (d .regs) j (underMask (getD writable j 0) (getD (d .regs) j 0) v)) q in
+          let b : vbat regs ≡ bit v 4 = ap vbat g ∙ stored-vbat (d .regs) v there in
+          pick-when (SameStamps (d .regs)) (vbat regs)
+          (λ t.
+          pick-case (SameStamps (d .regs)) (vbat (d .regs)) (set-same s h e)
+          (λ k m. getD-set-other regs dayAt k _ 0 (λ z. omega arith) ∙ set-same s h e k m))
+          (λ f. absurd (c (q, sym b ∙ f)))) .0
