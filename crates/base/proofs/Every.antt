@@ -3,7 +3,7 @@
 use mathlib.Core.Path.{_≡_, refl, sym, ap, subst, _∙_}
 use mathlib.Core.Bool.{Bool, true, false, _&&_, and-false, true≢false}
 use mathlib.Core.Logic.{⊎-elim}
-use Prim.Native.Nat.{ℕ, zero, suc, _+_, _<_}
+use Prim.Native.Nat.{ℕ, zero, suc, _+_, _-_, _<_, _≤_}
 use native.Mathlib.Nat.{le-of-suc-le-suc, not-suc-le-zero, eq-or-lt-of-le}
 use native.Mathlib.Numerals.{add-one}
 use native.Mathlib.Omega.{arith}
@@ -59,6 +59,12 @@ every-all f (suc n) h =
 -- two functions to numbers agree below n where one computed test says so
 pub same-below : (f g : ℕ → ℕ) (n : ℕ) → every (λ (k : ℕ). eqb (f k) (g k)) n ≡ true → (k : ℕ) → k < n → f k ≡ g k
 same-below f g n t k h = eqb-true (f k) (g k) (every-at (λ (j : ℕ). eqb (f j) (g j)) n t k h)
+
+-- one value at each of n numbers from a on
+pub same-from : (f : ℕ → ℕ) (v a n : ℕ) → every (λ (j : ℕ). eqb (f (a + j)) v) n ≡ true → (k : ℕ) → a ≤ k → k < a + n → f k ≡ v
+same-from f v a n t k l h =
+    let e : k ≡ a + (k - a) = omega arith in
+    ap f e ∙ same-below (λ (j : ℕ). f (a + j)) (λ (j : ℕ). v) n t (k - a) (omega arith)
 
 -- a bound that one computed test shows at each number below n
 pub bound-below : (f : ℕ → ℕ) (m n : ℕ) → every (λ (k : ℕ). ltb (f k) m) n ≡ true → (k : ℕ) → k < n → f k < m

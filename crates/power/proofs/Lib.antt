@@ -1,1 +1,2 @@
 pub mod PowerLaws
+pub mod StampLaws

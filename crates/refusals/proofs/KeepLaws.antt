@@ -3,16 +3,13 @@
 -- Assumes nothing.
 use Prim.Native.Nat.{ℕ, _+_, _<_, _≤_}
 use native.Mathlib.Omega.{arith}
-use mathlib.Core.Path.{_≡_, refl, sym, subst, _∙_}
+use mathlib.Core.Path.{_≡_, refl, sym, subst}
 use mathlib.Core.Bool.{Bool, false}
 use mathlib.Core.List.{List}
-use borrow.Author.Tests.{le-ltb}
 use lib.Bits.{bitAnd, and-le-r}
-use lib.Dec.{ltb}
 use lib.ListN.{getD, set}
-use Rattle.base.specs.Words.{pick, every}
-use Rattle.base.proofs.Tests.{no}
-use Rattle.base.proofs.Every.{same-below, bound-below}
+use Rattle.base.specs.Words.{every}
+use Rattle.base.proofs.Every.{same-from, bound-below}
 use Rattle.base.proofs.BitLaws.{below-mask}
 use Rattle.base.proofs.StoreLaws.{set-case}
 use Rattle.record.specs.declared.Device.{Device}
@@ -73,7 +70,7 @@ set-inside regs a v p q k h = set-case (Inside k) regs a k v (λ e. subst (λ (j
 -- of a time-stamp every byte is inside
 stamp-mask : (k : ℕ) → powerDownAt ≤ k → k < 32 → getD kept k 0 ≡ 0xff
 unfolding every
-stamp-mask k l h = no _ _ (le-ltb k powerDownAt l) ∙ same-below (λ (n : ℕ). pick (ltb n powerDownAt) 0xff (getD kept n 0)) (λ (n : ℕ). 0xff) 32 refl k h
+stamp-mask k l h = same-from (λ (n : ℕ). getD kept n 0) 0xff powerDownAt 8 refl k l (omega arith)
 
 stamp-byte : (k v : ℕ) → powerDownAt ≤ k → k < 32 → v < 256 → Inside k v
 stamp-byte k v l h b = rw (stamp-mask k l h) (below-mask 8 (omega arith) v b b)

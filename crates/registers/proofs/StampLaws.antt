@@ -7,14 +7,12 @@ use mathlib.Core.List.{List}
 use mathlib.Core.Logic.{_≢_}
 use Prim.Native.Nat.{ℕ, _<_, _≤_}
 use native.Mathlib.Omega.{arith}
-use borrow.Author.Tests.{le-ltb}
 use lib.Bits.{bitAnd, and-zero-r, or-zero-r}
-use lib.Dec.{ltb}
 use lib.ListN.{length, getD, set, length-set}
 use lib.Seq.{getD-set-same, getD-set-other}
 use Rattle.base.specs.Words.{pick, bit, every}
 use Rattle.base.proofs.Tests.{pick-case, pick-when, yes, no}
-use Rattle.base.proofs.Every.{same-below}
+use Rattle.base.proofs.Every.{same-from}
 use Rattle.base.proofs.BitLaws.{and-bit, or-bit, below-mask}
 use Rattle.base.proofs.StoreLaws.{set-case}
 use Rattle.record.specs.declared.Device.{Device}
@@ -30,7 +28,7 @@ use Rattle.registers.proofs.WriteLaws.{write-case, after-case}
 -- Of a time-stamp nothing is written.
 stamp-writable : (k : ℕ) → powerDownAt ≤ k → k < 32 → getD writable k 0 ≡ 0
 unfolding every
-stamp-writable k l h = no _ _ (le-ltb k powerDownAt l) ∙ same-below (λ (n : ℕ). pick (ltb n powerDownAt) 0 (getD writable n 0)) (λ (n : ℕ). 0) 32 refl k h
+stamp-writable k l h = same-from (λ (n : ℕ). getD writable n 0) 0 powerDownAt 8 refl k l (omega arith)
 
 under-none : (old v : ℕ) → old < 256 → underMask 0 old v ≡ old
 under-none old v h = simp (and-zero-r v, or-zero-r (bitAnd old 255)) (below-mask 8 (omega arith) old h h)

@@ -104,40 +104,50 @@ day-other had regs k h n =
     let P : List ℕ → Type 0 = λ l. getD l k 0 ≡ getD regs k 0 in
     pick-case P (vbat regs) (pick-case P had refl (getD-set-other regs dayAt k _ 0 n)) (unstamped-other regs k h)
 
--- a stored register and what follows from it
-after-write-in :
-    (boots had : Bool) (a s : ℕ) (d : Device) → Inside a s → ClockOf boots d → ClockOf boots (afterWrite boots had a (withRegs d (set (d .regs) a s)))
+-- so it keeps a clock in range
+day-in : (boots had : Bool) (d : Device) → ClockOf boots d → ClockOf boots (withRegs d (dayWritten had (d .regs)))
+day-in boots had d r =
+    let regs : List ℕ = d .regs in
+    regs-in boots d r (dayWritten had regs) (day-inside had regs (r .inside))
+    (subst (λ (v : ℕ). d .counters .watchdog < periodOf v) (sym (day-other had regs watchdogAt (omega arith) (λ z. omega arith))) (r .watchdog))
+    (subst (λ (v : ℕ). boots ≡ false → bit v 7 ≡ false → d .counters .startup ≡ 0) (sym (day-other had regs secondsAt (omega arith) (λ z. omega arith))) (r .stopped))
+
+-- What follows from a write keeps it in range, over the registers as the write left them; before it they were others.
+after-in :
+    (boots had : Bool) (a : ℕ) (old : List ℕ) (d : Device) → ClockOf boots (withRegs d old) → AllInside (d .regs)
+    → (a ≢ watchdogAt → Paced (d .counters) (d .regs)) → (a ≢ secondsAt → Halted boots (d .counters) (d .regs)) → ClockOf boots (afterWrite boots had a d)
 unfolding afterWrite
-after-write-in boots had a s d i r =
-    let regs : List ℕ = set (d .regs) a s in
-    let still : AllInside regs = set-inside (d .regs) a s i (r .inside) in
-    let paced : a ≢ watchdogAt → Paced (d .counters) regs =
-    λ n. set-case (λ (v : ℕ). d .counters .watchdog < periodOf v) (d .regs) a watchdogAt s (λ e. absurd (n (sym e))) (r .watchdog) in
-    let halted : a ≢ secondsAt → Halted boots (d .counters) regs =
-    λ n. set-case (λ (v : ℕ). boots ≡ false → bit v 7 ≡ false → d .counters .startup ≡ 0) (d .regs) a secondsAt s (λ e. absurd (n (sym e))) (r .stopped) in
+after-in boots had a old d r i paced halted =
+    let o : Device = withRegs d old in
     pick-when (ClockOf boots) (eqb a secondsAt)
     (λ e.
     let n : a ≢ watchdogAt = λ q. omega (arith, eqb-true a secondsAt e) in
-    pick-when (ClockOf boots) (not boots && not (st regs))
-    (λ t. regs-in boots (withStartup d 0) (startup-in boots d r 0 (omega arith) (λ b o. refl)) regs still (paced n) (λ b o. refl))
-    (λ t. regs-in boots d r regs still (paced n) (λ b o. absurd (true-false (simp (b, o)) t))))
+    pick-when (ClockOf boots) (not boots && not (st (d .regs)))
+    (λ t. regs-in boots (withStartup o 0) (startup-in boots o r 0 (omega arith) (λ b z. refl)) (d .regs) i (paced n) (λ b z. refl))
+    (λ t. regs-in boots o r (d .regs) i (paced n) (λ b z. absurd (true-false (simp (b, z)) t))))
     (λ e.
     let m : a ≢ secondsAt = eqb-false a secondsAt e in
     pick-when (ClockOf boots) (eqb a dayAt)
     (λ q.
     let n : a ≢ watchdogAt = λ z. omega (arith, eqb-true a dayAt q) in
-    regs-in boots d r (dayWritten had regs) (day-inside had regs still)
-    (subst (λ (v : ℕ). d .counters .watchdog < periodOf v) (sym (day-other had regs watchdogAt (omega arith) (λ z. omega arith))) (paced n))
-    (subst (λ (v : ℕ). boots ≡ false → bit v 7 ≡ false → d .counters .startup ≡ 0) (sym (day-other had regs secondsAt (omega arith) (λ z. omega arith))) (halted m)))
+    day-in boots had d (regs-in boots o r (d .regs) i (paced n) (halted m)))
     (λ q.
     pick-when (ClockOf boots) (eqb a watchdogAt)
-    (λ q.
-    let v : ℕ = getD regs watchdogAt 0 in
+    (λ w.
+    let v : ℕ = getD (d .regs) watchdogAt 0 in
     let l : delayAfter v ≤ delayTicks = pick-case (λ (n : ℕ). n ≤ delayTicks) ((wdten v && wddel v) && not (wdtif v)) (omega arith) (omega arith) in
-    regs-in boots (withDelay (withWatchdog d 0) (delayAfter v))
-    (delay-in boots (withWatchdog d 0) (watchdog-in boots d r 0 (omega (arith, period-least (getD (d .regs) watchdogAt 0)))) (delayAfter v) l)
-    regs still (omega (arith, period-least v)) (halted m))
-    (λ q. regs-in boots d r regs still (paced (eqb-false a watchdogAt q)) (halted m))))
+    regs-in boots (withDelay (withWatchdog o 0) (delayAfter v))
+    (delay-in boots (withWatchdog o 0) (watchdog-in boots o r 0 (omega (arith, period-least (getD old watchdogAt 0)))) (delayAfter v) l)
+    (d .regs) i (omega (arith, period-least v)) (halted m))
+    (λ w. regs-in boots o r (d .regs) i (paced (eqb-false a watchdogAt w)) (halted m))))
+
+-- a stored register and what follows from it
+after-write-in :
+    (boots had : Bool) (a s : ℕ) (d : Device) → Inside a s → ClockOf boots d → ClockOf boots (afterWrite boots had a (withRegs d (set (d .regs) a s)))
+after-write-in boots had a s d i r =
+    after-in boots had a (d .regs) (withRegs d (set (d .regs) a s)) r (set-inside (d .regs) a s i (r .inside))
+    (λ n. set-case (λ (v : ℕ). d .counters .watchdog < periodOf v) (d .regs) a watchdogAt s (λ e. absurd (n (sym e))) (r .watchdog))
+    (λ n. set-case (λ (v : ℕ). boots ≡ false → bit v 7 ≡ false → d .counters .startup ≡ 0) (d .regs) a secondsAt s (λ e. absurd (n (sym e))) (r .stopped))
 
 -- WRITE keeps a record in range, at every address and of every value
 pub write-in-range :

@@ -8,6 +8,7 @@ use mathlib.Core.List.{List, [], _∷_}
 use lib.ListN.{getD, set}
 use Rattle.record.specs.declared.Device.{Device}
 use Rattle.record.specs.Setters.{counts}
+use Rattle.record.specs.Stamps.{unstamped}
 use Rattle.record.specs.Scene.{chip, started}
 use Rattle.registers.specs.Read.{readClock}
 use Rattle.registers.specs.Write.{writeClock, afterWrite}
@@ -20,6 +21,13 @@ readAt d a = readClock d (record { 0 = a })
 abbrev wroteAll : ℕ → ℕ
 wroteAll a = getD (writeClock false (chip started (counts 0 0 0 0 0)) (record { 0 = a }) 0xff .regs) a 0
 
+-- a register after a byte is written to another, where VBAT is set and both time-stamps hold something
+abbrev held : List ℕ
+held = set (set (set started 0x04 0x1a) 0x18 0x59) 0x1f 0xa5
+
+abbrev wroteOver : ℕ → ℕ → ℕ → ℕ
+wroteOver a v k = getD (writeClock false (chip held (counts 0 0 0 0 0)) (record { 0 = a }) v .regs) k 0
+
 -- start-up count, watchdog's count and delay after a write
 abbrev countsAfter : Bool → ℕ → ℕ → List ℕ
 countsAfter boots a v =
@@ -30,6 +38,14 @@ pub BlockShown : Type 0
 BlockShown =
     -- F13. masks
     (wroteAll 0x02 ≡ 0x7f) × (wroteAll 0x04 ≡ 0x0f) × (wroteAll 0x06 ≡ 0x1f) × (wroteAll 0x0e ≡ 0x3f) × (wroteAll 0x18 ≡ 0x00)
+    -- F12, C5. what the mask leaves out keeps its value: a time-stamp, whatever is written
+    × (wroteOver 0x18 0x00 0x18 ≡ 0x59) × (wroteOver 0x1f 0xff 0x1f ≡ 0xa5)
+    -- P16. VBAT written 0: the bit and both time-stamps; the other bits are stored
+    × (wroteOver 0x04 0x0b 0x04 ≡ 0x0b) × (wroteOver 0x04 0x0b 0x18 ≡ 0x00) × (wroteOver 0x04 0x0b 0x1f ≡ 0x00)
+    -- P16. VBAT written 1: it stays, set here and clear above (F13); the time-stamps too
+    × (wroteOver 0x04 0x15 0x04 ≡ 0x15) × (wroteOver 0x04 0x15 0x18 ≡ 0x59) × (wroteOver 0x04 0x15 0x1f ≡ 0xa5)
+    -- P16. a 0 in bit 4 of another register means nothing
+    × (wroteOver 0x05 0x01 0x18 ≡ 0x59) × (wroteOver 0x05 0x01 0x04 ≡ 0x1a)
     -- F15. OSCON from the 32nd start-up tick on, in bit 5
     × (readAt (chip started (counts 0 31 0 0 0)) 0x04 ≡ 0x00)
     × (readAt (chip started (counts 0 32 0 0 0)) 0x04 ≡ 0x20)
@@ -48,5 +64,5 @@ BlockShown =
     × (countsAfter false 0x0a 0xe0 ≡ 32 ∷ 0 ∷ 0 ∷ 8 ∷ [])
 
 pub block-shown : BlockShown
-unfolding BlockShown readClock writeClock afterWrite
-block-shown = (refl, refl, refl, refl, refl, refl, refl, refl, refl, refl, refl, refl, refl, refl, refl, refl)
+unfolding BlockShown readClock writeClock afterWrite unstamped
+block-shown = (refl, refl, refl, refl, refl, refl, refl, refl, refl, refl, refl, refl, refl, refl, refl, refl, refl, refl, refl, refl, refl, refl, refl, refl, refl, refl)

@@ -1,0 +1,118 @@
+-- What a cut and an up do to the time-stamps, VBAT and the mark, in each of their cases. Of the registers' lengths only what is read is supposed.
+-- Assumes nothing.
+use Prim.Native.Nat.{ℕ, _<_, _≤_}
+use native.Mathlib.Omega.{arith}
+use mathlib.Core.Path.{_≡_, refl, sym, ap, subst, _∙_}
+use mathlib.Core.Bool.{true, false, not, _&&_, or-true}
+use mathlib.Core.Logic.{inl, inr, _≢_}
+use mathlib.Core.List.{List}
+use lib.ListN.{length, getD}
+use lib.Seq.{getD-set-same, getD-set-other}
+use Rattle.base.specs.Words.{every, bit}
+use Rattle.base.proofs.Tests.{true-false, yes, no}
+use Rattle.base.proofs.Every.{same-from}
+use Rattle.base.proofs.BitLaws.{or-bit}
+use Rattle.record.specs.declared.Device.{Device}
+use Rattle.record.specs.Fresh.{freshRegs}
+use Rattle.record.specs.Registers.{vbaten, vbat, dayAt, watchdogAt, powerDownAt, powerUpAt}
+use Rattle.record.specs.Stamps.{stamped, withVbat, Shows, SameStamps}
+use Rattle.record.proofs.StampLaws.{stamped-other, stamped-length, stamped-shows, shows-kept}
+use Rattle.power.specs.Power.{failureStamped, takesStamp, afterCut, afterUp}
+use Rattle.power.proofs.PowerLaws.{cut-case, cut-beside}
+
+-- a cut on the battery leaves every register but 0Ah to the failure's time-stamp
+cut-register : (mask : ℕ) (d : Device) (k : ℕ) → vbaten (d .regs) ≡ true → k ≢ watchdogAt → getD (afterCut mask d .regs) k 0 ≡ getD (failureStamped (d .regs)) k 0
+cut-register mask d k t n =
+    cut-case (λ (e : Device). getD (e .regs) k 0 ≡ getD (failureStamped (d .regs)) k 0) mask d
+    (λ u. getD-set-other (failureStamped (d .regs)) watchdogAt k _ 0 n) (λ f. absurd (true-false t f))
+
+-- the mark of a cut
+pub cut-mark : (mask : ℕ) (d : Device) → afterCut mask d .mark ≡ takesStamp (d .regs)
+cut-mark mask d = cut-beside mask d .mark
+
+-- VBAT set by a cut
+with-vbat : (regs : List ℕ) → dayAt < length regs → vbat (withVbat regs) ≡ true
+with-vbat regs l = ap (λ (n : ℕ). bit n 4) (getD-set-same regs dayAt _ 0 l) ∙ or-bit (getD regs dayAt 0) 0x10 4 ∙ or-true (bit (getD regs dayAt 0) 4)
+
+-- P13. A cut that finds VBATEN set and VBAT clear.
+pub record Stamped (d e : Device) : Type 0 where
+  pub down : Shows powerDownAt (e .regs) (d .regs)
+  pub up : (k : ℕ) → powerUpAt ≤ k → getD (e .regs) k 0 ≡ getD (d .regs) k 0
+  pub vbat : vbat (e .regs) ≡ true
+  pub mark : e .mark ≡ true
+
+pub cut-stamps : (mask : ℕ) (d : Device) → vbaten (d .regs) ≡ true → vbat (d .regs) ≡ false → length (d .regs) ≡ 32 → Stamped d (afterCut mask d)
+cut-stamps mask d t f l =
+    let regs : List ℕ = d .regs in
+    let s : List ℕ = stamped powerDownAt regs in
+    let e : failureStamped regs ≡ withVbat s = sym (no regs (withVbat s) f) in
+    let at : (k : ℕ) → k ≢ watchdogAt → getD (afterCut mask d .regs) k 0 ≡ getD (withVbat s) k 0 =
+    λ k n. cut-register mask d k t n ∙ ap (λ (x : List ℕ). getD x k 0) e in
+    let beside : (k : ℕ) → powerDownAt ≤ k → getD (afterCut mask d .regs) k 0 ≡ getD s k 0 =
+    λ k h. at k (λ z. omega arith) ∙ getD-set-other s dayAt k _ 0 (λ z. omega arith) in
+    record {
+      down = shows-kept powerDownAt s (afterCut mask d .regs) regs (λ k h g. beside k h) (stamped-shows powerDownAt regs (omega (arith, l)));
+      up = λ k h. beside k (omega arith) ∙ stamped-other powerDownAt regs k (inr h);
+      vbat = ap (λ (n : ℕ). bit n 4) (at dayAt (λ z. omega arith)) ∙ with-vbat s (omega (arith, l, stamped-length powerDownAt regs));
+      mark = cut-mark mask d ∙ (λ i. t i && not (f i));
+    }
+
+-- P14. A cut that finds VBATEN and VBAT set leaves both time-stamps, and no mark.
+pub record Held (d e : Device) : Type 0 where
+  pub stamps : SameStamps (d .regs) (e .regs)
+  pub vbat : vbat (e .regs) ≡ true
+  pub mark : e .mark ≡ false
+
+pub cut-held : (mask : ℕ) (d : Device) → vbaten (d .regs) ≡ true → vbat (d .regs) ≡ true → Held d (afterCut mask d)
+cut-held mask d t v =
+    let e : failureStamped (d .regs) ≡ d .regs = sym (yes (d .regs) _ v) in
+    let at : (k : ℕ) → k ≢ watchdogAt → getD (afterCut mask d .regs) k 0 ≡ getD (d .regs) k 0 =
+    λ k n. cut-register mask d k t n ∙ ap (λ (x : List ℕ). getD x k 0) e in
+    record {
+      stamps = λ k h. at k (λ z. omega arith);
+      vbat = ap (λ (n : ℕ). bit n 4) (at dayAt (λ z. omega arith)) ∙ v;
+      mark = cut-mark mask d ∙ (λ i. t i && not (v i));
+    }
+
+-- P14. One that finds VBATEN clear leaves both time-stamps 0, VBAT clear and no mark.
+pub record Lost (e : Device) : Type 0 where
+  pub stamps : (k : ℕ) → powerDownAt ≤ k → k < 32 → getD (e .regs) k 0 ≡ 0
+  pub vbat : vbat (e .regs) ≡ false
+  pub mark : e .mark ≡ false
+
+fresh-stamp : (k : ℕ) → powerDownAt ≤ k → k < 32 → getD freshRegs k 0 ≡ 0
+unfolding every
+fresh-stamp k l h = same-from (λ (n : ℕ). getD freshRegs n 0) 0 powerDownAt 8 refl k l (omega arith)
+
+pub cut-lost : (mask : ℕ) (d : Device) → vbaten (d .regs) ≡ false → Lost (afterCut mask d)
+cut-lost mask d f =
+    let regs : afterCut mask d .regs ≡ freshRegs = cut-case (λ (e : Device). e .regs ≡ freshRegs) mask d (λ t. absurd (true-false t f)) (λ t. refl) in
+    record {
+      stamps = λ k l h. ap (λ (x : List ℕ). getD x k 0) regs ∙ fresh-stamp k l h;
+      vbat = ap vbat regs;
+      mark = cut-mark mask d ∙ (λ i. f i && not (vbat (d .regs)));
+    }
+
+-- P15. An up that finds the mark copies the time into the power-up time-stamp; one that finds none changes no register. Neither leaves a mark.
+pub up-mark : (d : Device) → afterUp d .mark ≡ false
+unfolding afterUp
+up-mark d = refl
+
+pub record Returned (d e : Device) : Type 0 where
+  pub up : Shows powerUpAt (e .regs) (d .regs)
+  pub others : (k : ℕ) → k < powerUpAt → getD (e .regs) k 0 ≡ getD (d .regs) k 0
+
+pub up-stamps : (d : Device) → d .mark ≡ true → length (d .regs) ≡ 32 → Returned d (afterUp d)
+unfolding afterUp
+up-stamps d t l =
+    let regs : List ℕ = d .regs in
+    let s : List ℕ = stamped powerUpAt regs in
+    let e : afterUp d .regs ≡ s = sym (yes s regs t) in
+    record {
+      up = subst (λ (x : List ℕ). Shows powerUpAt x regs) (sym e) (stamped-shows powerUpAt regs (omega (arith, l)));
+      others = λ k h. ap (λ (x : List ℕ). getD x k 0) e ∙ stamped-other powerUpAt regs k (inl h);
+    }
+
+pub up-leaves : (d : Device) → d .mark ≡ false → afterUp d .regs ≡ d .regs
+unfolding afterUp
+up-leaves d f = sym (no (stamped powerUpAt (d .regs)) (d .regs) f)
