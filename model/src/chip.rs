@@ -1,4 +1,7 @@
-//! The chip's record, its range (number 6), the refusal table, frames, ticks, cut and `perform`.
+//! The chip's record, its range (number 6), the refusal table, frames, ticks, cut, up and
+//! `perform`.
+
+use std::ops::Range;
 
 use crate::calendar::{self, Reach};
 use crate::Act;
@@ -20,8 +23,10 @@ pub const CLRRAM: u8 = 0x54;
 
 // Register addresses (000, table 4-1).
 pub const SECONDS: usize = 0x01; // bit 7: ST
-pub const HOURS: usize = 0x03; // bit 6: 12/24
-pub const DAY: usize = 0x04; // bit 5: OSCON, bit 3: VBATEN
+pub const MINUTES: usize = 0x02;
+pub const HOURS: usize = 0x03; // bit 7: CALSGN, bit 6: 12/24
+pub const DAY: usize = 0x04; // bit 5: OSCON, bit 4: VBAT, bit 3: VBATEN
+pub const DATE: usize = 0x05;
 pub const MONTH: usize = 0x06; // bit 5: LP
 pub const YEAR: usize = 0x07;
 pub const CONTROL: usize = 0x08; // bits 5:4: alarms active
@@ -30,8 +35,15 @@ pub const ALARM0_HOURS: usize = 0x0E;
 pub const ALARM0_DAY: usize = 0x0F;
 pub const ALARM1_HOURS: usize = 0x15;
 pub const ALARM1_DAY: usize = 0x16;
+pub const POWER_DOWN: usize = 0x18; // the first of the four of a cut's time-stamp
+pub const POWER_UP: usize = 0x1C; // the first of the four of an up's
+pub const STAMPS: Range<usize> = 0x18..0x20;
 
-/// 01 Frames: the bits that WRITE can set in each register, from 00h on.
+/// VBAT's place in 04h.
+pub const VBAT: u8 = 0x10;
+
+/// 01 Frames: the bits that WRITE can change in each register, from 00h on. VBAT it can only
+/// clear.
 pub const WRITABLE: [u8; 32] = [
     0xFF, 0xFF, 0x7F, 0xFF, 0x1F, 0x3F, 0x1F, 0xFF, //
     0xFF, 0xFF, 0xFF, 0xFF, 0x7F, 0x7F, 0x3F, 0xFF, //
@@ -145,6 +157,8 @@ pub struct Device {
     pub watchdog: u64,
     pub delay: u64,
     pub pulse: u64,
+    /// 02 Time-stamps, the mark: the cut took a time-stamp, and so will the up that ends it.
+    pub stamp_due: bool,
 }
 
 /// 01 Acts: a fresh chip has 01h in day, date and month, and 0 in the other registers.
@@ -195,6 +209,7 @@ impl Device {
             watchdog: 0,
             delay: 0,
             pulse: 0,
+            stamp_due: false,
         }
     }
 
@@ -216,6 +231,10 @@ impl Device {
 
     fn st(&self) -> bool {
         self.bit(SECONDS, 7)
+    }
+
+    fn vbat(&self) -> bool {
+        self.registers[DAY] & VBAT != 0
     }
 
     fn vbaten(&self) -> bool {
@@ -261,6 +280,15 @@ pub fn heard_under_wip(code: u8) -> bool {
     matches!(code, SRREAD | READ | WRITE | CLRWDT | CLRRAM)
 }
 
+/// The bits that a register may hold: those that WRITE can change; of a time-stamp all eight.
+fn holds(register: usize) -> u8 {
+    if STAMPS.contains(&register) {
+        0xFF
+    } else {
+        WRITABLE[register]
+    }
+}
+
 /// Number 6, row by row.
 pub fn out_of_range(part: u64, device: &Device) -> bool {
     let deaf_frame_open = match device.frame {
@@ -276,10 +304,11 @@ pub fn out_of_range(part: u64, device: &Device) -> bool {
         || device.offset > 7
         || device.id_pointer > 15
         || device.eeprom_pointer >= eeprom_length(part) as u64
-        || (0..32).any(|r| device.registers[r] & !WRITABLE[r] != 0)
+        || (0..32).any(|r| device.registers[r] & !holds(r) != 0)
         || device.start_up > 0 && !is_b_part(part) && !device.st()
         || !device.power && (device.selected() || device.wip())
         || device.wip() && deaf_frame_open
+        || device.power && device.stamp_due
 }
 
 /// Number 3 for the act's number.
@@ -347,12 +376,26 @@ fn write_clock(part: u64, device: &mut Device, address: u8, byte: u8) {
     let address = usize::from(address);
     match address {
         0x00..=0x1F => {
-            device.registers[address] = byte & WRITABLE[address];
+            write_register(device, address, byte);
             after_register_write(part, device, address);
         }
         0x20..=0x5F => device.sram[address - 0x20] = byte,
         _ => {}
     }
+}
+
+/// 02 Time-stamps: bits outside the mask keep their value. So does VBAT where a 1 is written to it;
+/// a 0 clears it and both time-stamps.
+fn write_register(device: &mut Device, register: usize, byte: u8) {
+    let mut mask = WRITABLE[register];
+    if register == DAY {
+        if byte & VBAT != 0 {
+            mask &= !VBAT;
+        } else {
+            device.registers[STAMPS].fill(0);
+        }
+    }
+    device.registers[register] = device.registers[register] & !mask | byte & mask;
 }
 
 fn after_register_write(part: u64, device: &mut Device, address: usize) {
@@ -697,8 +740,32 @@ fn cut(device: &mut Device, mask: u8, eeprom: &mut [u8], id: &mut [u8]) -> u64 {
         device.sram = [0; 64];
         device.divider = 0;
         device.start_up = 0;
+    } else if !device.vbat() {
+        // 02 Time-stamps: later cuts find VBAT set, and the time of the first one stays.
+        stamp(device, POWER_DOWN);
+        device.registers[DAY] |= VBAT;
+        device.stamp_due = true;
     }
     stored
+}
+
+/// 01 Power, 02 Time-stamps: power is back. Only the mark tells whether the cut took a time-stamp.
+fn up(device: &mut Device) {
+    device.power = true;
+    if device.stamp_due {
+        stamp(device, POWER_UP);
+        device.stamp_due = false;
+    }
+}
+
+/// 02 Time-stamps, 000 table 4-1 and registers 8-1 to 8-4: copies the time of this moment to the
+/// four registers from `first` on: minutes, hours, date, and month with the day of the week above
+/// it. Copied is what is stored, valid or not; CALSGN is not.
+fn stamp(device: &mut Device, first: usize) {
+    let now = &device.registers;
+    let month = (now[DAY] & 0x07) << 5 | now[MONTH] & 0x1F;
+    let copy = [now[MINUTES], now[HOURS] & 0x7F, now[DATE], month];
+    device.registers[first..first + 4].copy_from_slice(&copy);
 }
 
 // ---------------------------------------------------------------------------------------------
@@ -732,7 +799,7 @@ pub fn perform(
         Act::End => end(part, device, number),
         Act::Wait => answer.count = wait(part, device, number, eeprom, id),
         Act::Cut => answer.count = cut(device, number as u8, eeprom, id),
-        Act::Up => device.power = true,
+        Act::Up => up(device),
     }
     answer
 }

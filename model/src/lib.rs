@@ -1,6 +1,7 @@
 //! A second, independent copy of the MCP795XX, tick by tick, from the papers alone: 01 is the
-//! outline with its exact rules, 000 and 002 are the sheets. A comment names the place of a rule
-//! by its paper and section (`01 Frames`); the words that follow are our own.
+//! outline with its exact rules, 02 has what amends it, 000 and 002 are the sheets. A comment
+//! names the place of a rule by its paper and section (`01 Frames`, `02 Time-stamps`); the words
+//! that follow are our own.
 
 pub mod calendar;
 pub mod chip;

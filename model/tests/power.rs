@@ -114,11 +114,10 @@ fn vbaten_set() {
     assert_eq!(rig.wait(32_768 - 132), 32_768 - 132);
     rig.up();
     assert_eq!(rig.time()[..2], [0x00, 0x81]);
-    assert_eq!((rig.read(0x04), rig.read(0x09), rig.read(0x3F)), (0x29, 0x12, 0x5A));
+    // 04h: OSCON (bit 5), VBATEN (bit 3), day 1, and VBAT (bit 4), which the cut has set.
+    assert_eq!((rig.read(0x04), rig.read(0x09), rig.read(0x3F)), (0x39, 0x12, 0x5A));
     // BP does not need a battery.
     assert_eq!(rig.status(), 0b1000);
-    // A cut leaves the VBAT bit (04h bit 4) as it is.
-    assert_eq!(rig.device.registers[0x04] & 0x10, 0);
 }
 
 #[test]
@@ -127,7 +126,7 @@ fn vbaten_clear() {
     for part in [W2K, B2K] {
         let mut rig = Rig::new(part);
         rig.write(0x20, &[0x5A; 64]);
-        rig.write(0x00, &[0x00, 0x80, 0x00, 0x00, 0x11]);
+        rig.write(0x00, &[0x00, 0x80, 0x00, 0x00, 0x01]);
         rig.write(0x0A, &[0xBF]);
         rig.write(0x09, &[0x12]);
         rig.protect(0b01);
@@ -180,6 +179,7 @@ fn a_cut_with_an_alarm_and_vbaten_clear() {
 
 #[test]
 fn up_changes_the_power_alone() {
+    // Where the cut took no time-stamp; tests/stamps.rs has the others.
     let mut rig = Rig::new(W2K);
     rig.cut(0);
     let off = rig.device.clone();

@@ -176,10 +176,11 @@ fn number_6_eeprom_pointer() {
 
 #[test]
 fn number_6_register_bits() {
-    // The masks are those of 01 Frames.
+    // The masks are those of 01 Frames; from 18h on 02 Time-stamps allows any byte.
     let masks = [
         0xFF, 0xFF, 0x7F, 0xFF, 0x1F, 0x3F, 0x1F, 0xFF, 0xFF, 0xFF, 0xFF, 0xFF, 0x7F, 0x7F, 0x3F,
-        0xFF, 0x3F, 0x1F, 0xFF, 0x7F, 0x7F, 0x3F, 0xFF, 0x3F, 0, 0, 0, 0, 0, 0, 0, 0,
+        0xFF, 0x3F, 0x1F, 0xFF, 0x7F, 0x7F, 0x3F, 0xFF, 0x3F, 0xFF, 0xFF, 0xFF, 0xFF, 0xFF, 0xFF,
+        0xFF, 0xFF,
     ];
     for (register, mask) in masks.into_iter().enumerate() {
         in_range(B2K, |d| d.registers[register] = mask);
@@ -214,6 +215,21 @@ fn number_6_power_off() {
         }
         in_range(part, |d| d.countdown = 1);
         out_of_range(part, |d| (d.power, d.countdown) = (false, 1));
+    }
+}
+
+#[test]
+fn number_6_mark() {
+    // 02 Time-stamps: the mark with power on is out of range; with power off it is not, whatever
+    // VBAT (04h bit 4) and VBATEN (bit 3) say.
+    for part in [W1K, W2K, B1K, B2K] {
+        for day in [0x01, 0x09, 0x11, 0x19] {
+            for power in [true, false] {
+                in_range(part, |d| (d.power, d.registers[4]) = (power, day));
+            }
+            out_of_range(part, |d| (d.stamp_due, d.registers[4]) = (true, day));
+            in_range(part, |d| (d.power, d.stamp_due, d.registers[4]) = (false, true, day));
+        }
     }
 }
 
@@ -300,10 +316,10 @@ fn fresh_is_in_range() {
 
 #[test]
 fn fresh_as_the_paper_has_it() {
-    // 01 Acts, the last paragraph.
+    // 01 Acts, the last paragraph, and no mark.
     let mut rig = Rig::new(B2K);
     let d = &rig.device;
-    assert!(d.power && d.frame == Frame::Idle && d.lock == Lock::Closed);
+    assert!(d.power && d.frame == Frame::Idle && d.lock == Lock::Closed && !d.stamp_due);
     assert_eq!(d.sram, [0; 64]);
     let mut registers = [0; 32];
     (registers[4], registers[5], registers[6]) = (1, 1, 1);
