@@ -1,6 +1,8 @@
 //! Random tapes that reach deep states: whole scenes (an unlock and an ID write, a time about to
 //! carry into an alarm, a cut in the middle of a cycle), disturbed now and then by a wait, a bad
-//! line, a refused act, a missing line or a cut.
+//! line, a refused act, a missing line or a cut. There are two kinds, with scenes of their own.
+
+mod power;
 
 use crate::calendar;
 use crate::chip::*;
@@ -52,8 +54,17 @@ struct Writer {
     calm: bool,
 }
 
-/// A tape of `lines` lines. `seed % 4` chooses the part.
+/// A mixed tape of `lines` lines. `seed % 4` chooses the part.
 pub fn tape(seed: u64, lines: u64) -> Vec<u8> {
+    of_scenes(seed, lines, Writer::scene)
+}
+
+/// A tape for the time-stamps: power fails and comes back often. `seed % 4` chooses the part.
+pub fn power_tape(seed: u64, lines: u64) -> Vec<u8> {
+    of_scenes(seed, lines, Writer::power_scene)
+}
+
+fn of_scenes(seed: u64, lines: u64, scene: fn(&mut Writer)) -> Vec<u8> {
     let mut writer =
         Writer { random: Random::new(seed), tape: Vec::new(), lines: 0, budget: 0, calm: false };
     let w = &mut writer;
@@ -66,7 +77,7 @@ pub fn tape(seed: u64, lines: u64) -> Vec<u8> {
     w.raw(format!("op=part arg={}", 1 + seed % 4).as_bytes());
     while w.lines < lines {
         w.calm = !w.random.once_in(3);
-        w.scene();
+        scene(w);
     }
     let no_last_newline = w.random.once_in(4);
     cut_to(writer.tape, lines, no_last_newline)
@@ -581,6 +592,15 @@ impl Writer {
     }
 
     fn power_cut(&mut self) {
+        self.cut();
+        if self.random.once_in(2) {
+            self.short_wait();
+        }
+        self.raw(b"op=up arg=0");
+    }
+
+    /// A cut, and now and then acts that are refused after it.
+    fn cut(&mut self) {
         let mask = match self.random.below(4) {
             0 => 0,
             1 => 255,
@@ -596,10 +616,6 @@ impl Writer {
                 _ => self.raw(b"op=up arg=1"),
             }
         }
-        if self.random.once_in(2) {
-            self.short_wait();
-        }
-        self.raw(b"op=up arg=0");
     }
 
     /// An act that the table refuses now or mostly.

@@ -1,12 +1,20 @@
 //! `model` answers the tape on standard input, `model FILE...` each file in turn, each starting
-//! without a part, and `model --generate SEED LINES` writes a random tape.
+//! without a part. `model --generate SEED LINES` writes a random tape, and so does `model
+//! --generate-power SEED LINES`, one whose power fails often.
 
 use std::ffi::OsString;
 use std::fs::File;
 use std::io::{self, Read, Write};
 use std::process::ExitCode;
 
+use model::generate;
 use model::tape::Tape;
+
+/// Makes a tape of seed and lines.
+type Generator = fn(u64, u64) -> Vec<u8>;
+
+const GENERATORS: [(&str, Generator); 2] =
+    [("--generate", generate::tape), ("--generate-power", generate::power_tape)];
 
 /// Answers all lines that have arrived before it reads on.
 fn run(mut input: impl Read, output: &mut impl Write) -> io::Result<()> {
@@ -29,7 +37,7 @@ fn run(mut input: impl Read, output: &mut impl Write) -> io::Result<()> {
     }
 }
 
-/// The two numbers after `--generate`.
+/// The two numbers after the option.
 fn seed_and_lines(words: &[OsString]) -> Option<(u64, u64)> {
     match words {
         [seed, lines] => Some((seed.to_str()?.parse().ok()?, lines.to_str()?.parse().ok()?)),
@@ -42,12 +50,12 @@ fn report(name: &str, error: io::Error) -> ExitCode {
     ExitCode::FAILURE
 }
 
-fn generate(words: &[OsString]) -> ExitCode {
+fn write_tape(option: &str, generator: Generator, words: &[OsString]) -> ExitCode {
     let Some((seed, lines)) = seed_and_lines(words) else {
-        eprintln!("use: model --generate SEED LINES");
+        eprintln!("use: model {option} SEED LINES");
         return ExitCode::FAILURE;
     };
-    match io::stdout().write_all(&model::generate::tape(seed, lines)) {
+    match io::stdout().write_all(&generator(seed, lines)) {
         Ok(()) => ExitCode::SUCCESS,
         Err(error) => report("standard output", error),
     }
@@ -55,8 +63,10 @@ fn generate(words: &[OsString]) -> ExitCode {
 
 fn main() -> ExitCode {
     let words: Vec<OsString> = std::env::args_os().skip(1).collect();
-    if words.first().is_some_and(|word| word == "--generate") {
-        return generate(&words[1..]);
+    for (option, generator) in GENERATORS {
+        if words.first().is_some_and(|word| word == option) {
+            return write_tape(option, generator, &words[1..]);
+        }
     }
     let mut output = io::stdout().lock();
     if words.is_empty() {

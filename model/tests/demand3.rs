@@ -33,13 +33,13 @@ fn agrees(rig: &Rig, ledger: &Ledger) -> bool {
 }
 
 /// Feeds the acts of a random tape; gives how many there were and how many entries.
-fn run(seed: u64, lines: u64) -> (u64, usize) {
+fn run(seed: u64, tape: &[u8]) -> (u64, usize) {
     let part = 1 + seed % 4;
     let mut rig = Rig::new(part);
     let mut ledger = Ledger::new(part);
     let (mut acts, mut entries) = (0, 0);
     let mut memories = (rig.eeprom.clone(), rig.id.clone());
-    for line in generate::tape(seed, lines).split(|&b| b == b'\n') {
+    for line in tape.split(|&b| b == b'\n') {
         let Some((Op::Do(act), number)) = parse(line) else { continue };
         acts += 1;
         let ticks = match (act, rig.act(act, number)) {
@@ -63,12 +63,24 @@ fn run(seed: u64, lines: u64) -> (u64, usize) {
 fn some_hundred_thousand_acts() {
     let (mut acts, mut entries) = (0, 0);
     for seed in 0..200 {
-        let (a, e) = run(seed, 2_000);
+        let (a, e) = run(seed, &generate::tape(seed, 2_000));
         acts += a;
         entries += e;
     }
     assert!(acts > 350_000, "{acts} acts");
     assert!(entries > 5_000, "{entries} entries");
+}
+
+#[test]
+fn acts_with_many_cuts() {
+    let (mut acts, mut entries) = (0, 0);
+    for seed in 0..40 {
+        let (a, e) = run(seed, &generate::power_tape(seed, 1_000));
+        acts += a;
+        entries += e;
+    }
+    assert!(acts > 35_000, "{acts} acts");
+    assert!(entries > 100, "{entries} entries");
 }
 
 #[test]

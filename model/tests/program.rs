@@ -1,4 +1,4 @@
-//! The program: standard input, named files, and a file that cannot be opened.
+//! The program: standard input, named files, a file that cannot be opened, and random tapes.
 
 use std::fs;
 use std::io::Write;
@@ -54,7 +54,24 @@ fn a_file_that_cannot_be_opened() {
 
 #[test]
 fn a_random_tape() {
-    let output = model(&["--generate", "3", "100"], b"");
-    assert_eq!(output.stdout, model::generate::tape(3, 100));
-    assert!(!model(&["--generate", "3"], b"").status.success());
+    for (option, tape) in [
+        ("--generate", model::generate::tape(3, 100)),
+        ("--generate-power", model::generate::power_tape(3, 100)),
+    ] {
+        let output = model(&[option, "3", "100"], b"");
+        assert_eq!(output.stdout, tape);
+        assert!(output.status.success() && output.stderr.is_empty());
+    }
+}
+
+#[test]
+fn wrong_use_of_an_option() {
+    for option in ["--generate", "--generate-power"] {
+        for words in [&[][..], &["3"], &["3", "100", "1"], &["3", "many"], &["-1", "100"]] {
+            let output = model(&[&[option], words].concat(), b"");
+            let told = String::from_utf8(output.stderr).unwrap();
+            assert_eq!(told, format!("use: model {option} SEED LINES\n"));
+            assert!(!output.status.success() && output.stdout.is_empty());
+        }
+    }
 }

@@ -1,5 +1,6 @@
 //! 01 Tape: which lines are of the form, the part rule, and what is printed.
 
+use model::generate::tape;
 use model::tape::{answers, parse, Op, Tape};
 use model::Act;
 
@@ -156,7 +157,7 @@ fn levels_are_shown_for_refused_and_bad_lines_too() {
 
 #[test]
 fn chunks_answer_as_their_join() {
-    let tape = model::generate::tape(5, 300);
+    let tape = tape(5, 300);
     let whole = answers(&tape);
     for size in [1, 2, 3, 7, 64, 1_000] {
         let mut out = Vec::new();
@@ -167,15 +168,4 @@ fn chunks_answer_as_their_join() {
         state.finish(&mut out);
         assert_eq!(out, whole);
     }
-}
-
-#[test]
-fn the_generator() {
-    for seed in 0..8 {
-        let tape = model::generate::tape(seed, 1_000);
-        assert_eq!(tape, model::generate::tape(seed, 1_000));
-        assert_eq!(answers(&tape).iter().filter(|&&b| b == b'\n').count(), 1_000);
-    }
-    assert!(model::generate::tape(0, 0).is_empty());
-    assert_ne!(model::generate::tape(0, 50), model::generate::tape(4, 50));
 }
