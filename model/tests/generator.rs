@@ -29,6 +29,7 @@ fn tapes_that_are_kept() {
         ("mixed_w_1k", tape(4, 3_000)),
         ("mixed_b_1k", tape(2, 3_000)),
         ("mixed_b_2k", tape(3, 3_000)),
+        ("mixed_power", power_tape(2, 3_000)),
         ("mixed", tape(1, 30_000)),
     ] {
         let folder = concat!(env!("CARGO_MANIFEST_DIR"), "/../crates/mcp795/data");
