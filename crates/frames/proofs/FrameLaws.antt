@@ -77,22 +77,26 @@ module _ (P : Load → Type 0) (l : Load) (v : ℕ) (p : P l) (q : P (emptied l 
   load-case (Second x) = p
   load-case (Over x) = p
 
--- What holds of the device and of every WRITE to it holds after a byte's store.
-module _ (P : Device → Type 0) (boots : Bool) (d : Device) (v : ℕ) (p : P d) (q : (a : ClockAddress) → P (writeClock boots d a v)) where
-  place-case : (x : Place) → P (writtenPlace boots d v x)
-  place-case (EepromAt a) = p
-  place-case (ClockAt a) = q a
-  place-case (IdAt a) = p
+-- What holds of the device and of every WRITE to it, where the frame is one, holds after a byte's store.
+module _ (P : Device → Type 0) (boots : Bool) (d : Device) (v : ℕ) (p : P d) where
+  place-when : (x : Place) → ((a : ClockAddress) → Writing x ≡ Writing (ClockAt a) → P (writeClock boots d a v)) → P (writtenPlace boots d v x)
+  place-when (EepromAt a) q = p
+  place-when (ClockAt a) q = q a refl
+  place-when (IdAt a) q = p
 
-  pub written-case : (s : Stage) → P (writtenAt boots d v s)
-  written-case Idle = p
-  written-case Opened = p
-  written-case Unheard = p
-  written-case (Instruction c) = p
-  written-case (Reading x) = p
-  written-case (Writing x) = place-case x
-  written-case (Second x) = p
-  written-case (Over x) = p
+  pub written-when : (s : Stage) → ((a : ClockAddress) → s ≡ Writing (ClockAt a) → P (writeClock boots d a v)) → P (writtenAt boots d v s)
+  written-when Idle q = p
+  written-when Opened q = p
+  written-when Unheard q = p
+  written-when (Instruction c) q = p
+  written-when (Reading x) q = p
+  written-when (Writing x) q = place-when x q
+  written-when (Second x) q = p
+  written-when (Over x) q = p
+
+  -- of every WRITE
+  pub written-case : ((a : ClockAddress) → P (writeClock boots d a v)) → (s : Stage) → P (writtenAt boots d v s)
+  written-case q s = written-when s (λ a e. q a)
 
 -- what holds of the SRAM, and of it with the byte stored, holds of the SRAM after a byte
 sram-case :

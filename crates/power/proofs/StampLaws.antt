@@ -80,7 +80,7 @@ pub record Lost (e : Device) : Type 0 where
   pub vbat : vbat (e .regs) ≡ false
   pub mark : e .mark ≡ false
 
-fresh-stamp : (k : ℕ) → powerDownAt ≤ k → k < 32 → getD freshRegs k 0 ≡ 0
+pub fresh-stamp : (k : ℕ) → powerDownAt ≤ k → k < 32 → getD freshRegs k 0 ≡ 0
 unfolding every
 fresh-stamp k l h = same-from (λ (n : ℕ). getD freshRegs n 0) 0 powerDownAt 8 refl k l (omega arith)
 

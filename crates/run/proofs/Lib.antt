@@ -14,4 +14,5 @@ pub mod DemandThree
 pub mod RunLaws
 pub mod TurnLaws
 pub mod ChangeLaws
+pub mod StampLaws
 pub mod WrongLaws

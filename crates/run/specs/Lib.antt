@@ -3,3 +3,4 @@ pub mod Run
 pub mod Script
 pub mod Wrong
 pub mod Changes
+pub mod Stamps

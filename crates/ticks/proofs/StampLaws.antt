@@ -25,7 +25,7 @@ pub record StampsStay (d e : Device) : Type 0 where
   pub vbat : vbat (e .regs) ≡ vbat (d .regs)
   pub mark : e .mark ≡ d .mark
 
-stay-then : {d e f : Device} → StampsStay d e → StampsStay e f → StampsStay d f
+pub stay-then : {d e f : Device} → StampsStay d e → StampsStay e f → StampsStay d f
 stay-then p q =
     record { stamps = λ k h. q .stamps k h ∙ p .stamps k h; vbat = q .vbat ∙ p .vbat; mark = q .mark ∙ p .mark }
 

@@ -1,0 +1,431 @@
+-- The promise of the time-stamps, proved: what each act does to them, by the laws of its own crate; a power failure, by an induction over the acts in
+-- it; and every run from fresh.
+-- Assumes nothing.
+use Prim.Native.Nat.{ℕ, _<_, _≤_}
+use native.Mathlib.Omega.{arith}
+use mathlib.Core.Path.{_≡_, refl, sym, ap, subst, _∙_}
+use mathlib.Core.Bool.{Bool, true, false, not, true≢false}
+use mathlib.Core.Logic.{_⊎_, inl, inr, ⊎-elim, _≢_}
+use mathlib.Core.List.{List, [], _∷_}
+use borrow.Author.Tests.{eqb-true, eqb-false, ltb-true, ltb-false, not-false}
+use lib.Dec.{eqb, ltb}
+use lib.ListN.{length, getD}
+use Rattle.base.specs.Words.{bit}
+use Rattle.base.specs.Wait.{Waited}
+use Rattle.base.proofs.Tests.{by-cases, pick-when, true-false}
+use Rattle.record.specs.declared.Act.{Act}
+use Rattle.record.specs.declared.Act.the-variants.{Select, Byte, End, Wait, Cut, Up}
+use Rattle.record.specs.declared.Device.{Device}
+use Rattle.record.specs.declared.Place.{Place}
+use Rattle.record.specs.declared.Place.the-variants.{EepromAt, ClockAt, IdAt}
+use Rattle.record.specs.declared.Stage.{Stage}
+use Rattle.record.specs.declared.Stage.the-variants.{Idle, Opened, Unheard, Instruction, Reading, Writing, Second, Over}
+use Rattle.record.specs.Fresh.{fresh}
+use Rattle.record.specs.Numbers.{placeKind, placeValue, stageKind}
+use Rattle.record.specs.Part.{isPart, topOf, bootsOf}
+use Rattle.record.specs.Registers.{vbaten, vbat, dayAt, powerUpAt}
+use Rattle.record.specs.Stages.{framePlace}
+use Rattle.record.specs.Stamps.{Shows, SameStamps}
+use Rattle.record.specs.World.{World, Shaped, freshWorld}
+use Rattle.record.proofs.StampLaws.{shows-kept}
+use Rattle.refusals.specs.InRange.{InRange}
+use Rattle.refusals.specs.Refusal.{wrongArg, wrongPower}
+use Rattle.refusals.proofs.RangeLaws.{in-range, out-of-range}
+use Rattle.refusals.proofs.TableLaws as table
+use Rattle.ticks.specs.Tick.{waited}
+use Rattle.ticks.specs.RecordTick.{deviceWaited}
+use Rattle.ticks.proofs.StampLaws.{StampsStay, stay-then, wait-stamps}
+use Rattle.ticks.proofs.TickLaws.{Steady}
+use Rattle.ticks.proofs.WaitLaws.{wait-device, wait-spent}
+use Rattle.frames.specs.Frame.{afterSelect, afterByte}
+use Rattle.frames.proofs.FrameLaws.{written-beside}
+use Rattle.frames.proofs.StampLaws.{byte-clears, byte-leaves-vbat, byte-other-vbat, byte-stamps}
+use Rattle.ends.specs.End.{afterEnd}
+use Rattle.power.specs.Power.{afterCut, cutWorld, afterUp}
+use Rattle.power.proofs.PowerLaws.{cut-device, cut-beside}
+use Rattle.power.proofs.StampLaws.{cut-stamps, cut-held, fresh-stamp, cut-lost, up-mark, up-stamps, up-leaves}
+use Rattle.acts.specs.Act.{Outcome, accepted, refused, refusalIn, performed}
+use Rattle.acts.proofs.OutcomeLaws.{answered-by-table, by-acceptance, by-refusal}
+use Rattle.acts.proofs.ValidLaws.{Valid, performed-valid, fresh-valid}
+use Rattle.run.specs.Claim.{Input, ourChip, worldAfter, reached}
+use Rattle.run.specs.Stamps.{NoStamps, toDay, StampAct, fails, forgets, returns, clears, VbatAct, sets, loses, resets, NoUp, powerOff, powerBack, PowerFailure, TimeStamps}
+use Rattle.run.proofs.RunLaws.{reached-in-range}
+
+-- whether a stage is a WRITE whose next byte goes to 04h
+day-place : (p : Place) → (Writing p ≡ toDay) ⊎ (Writing p ≢ toDay)
+day-place (EepromAt a) = inr (λ e. omega (arith, ap (λ (s : Stage). placeKind (framePlace s)) e))
+day-place (ClockAt a) =
+    by-cases (eqb (a .0) dayAt)
+    (λ t. let q = eqb-true (a .0) dayAt t in inl (λ i. Writing (ClockAt (record { 0 = q i }))))
+    (λ f. inr (λ e. eqb-false (a .0) dayAt f (ap (λ (s : Stage). placeValue (framePlace s)) e)))
+day-place (IdAt a) = inr (λ e. omega (arith, ap (λ (s : Stage). placeKind (framePlace s)) e))
+
+other-kind : (s : Stage) → stageKind s ≢ 5 → s ≢ toDay
+other-kind s n e = n (ap stageKind e)
+
+day-stage : (s : Stage) → (s ≡ toDay) ⊎ (s ≢ toDay)
+day-stage Idle = inr (other-kind Idle (λ e. omega arith))
+day-stage Opened = inr (other-kind Opened (λ e. omega arith))
+day-stage Unheard = inr (other-kind Unheard (λ e. omega arith))
+day-stage (Instruction c) = inr (other-kind (Instruction c) (λ e. omega arith))
+day-stage (Reading p) = inr (other-kind (Reading p) (λ e. omega arith))
+day-stage (Writing p) = day-place p
+day-stage (Second q) = inr (other-kind (Second q) (λ e. omega arith))
+day-stage (Over l) = inr (other-kind (Over l) (λ e. omega arith))
+
+-- What holds of the world, and of what the act leaves where the table accepts it, holds after the act.
+performed-case :
+    (P : World → Type 0) (part : ℕ) (act : Act) (arg : ℕ) (w : World) → P w → (refusalIn part act arg w ≡ 0 → P (accepted part arg w act .after))
+    → P (performed part act arg w .after)
+unfolding performed
+performed-case P part act arg w p q =
+    pick-when (λ (o : Outcome). P (o .after)) (eqb (refusalIn part act arg w) 0) (λ t. q (eqb-true (refusalIn part act arg w) 0 t)) (λ f. p)
+
+-- A wait leaves time-stamps, VBAT and mark; select and end leave registers and mark.
+wait-stays : (part n : ℕ) (w : World) → StampsStay (w .device) (waited (bootsOf part) n w .after .device)
+wait-stays part n w =
+    subst (StampsStay (w .device)) (ap (λ (x : Waited Device). x .after) (wait-device (bootsOf part) n w)) (wait-stamps (bootsOf part) n (w .device))
+
+cut-is : (P : Device → Type 0) (mask : ℕ) (w : World) → P (afterCut mask (w .device)) → P (cutWorld mask w .device)
+cut-is P mask w p = subst P (sym (cut-device mask w)) p
+
+-- What an accepted act changes.
+module _ (part arg : ℕ) (w : World) (z : Shaped part w) where
+  d : Device
+  d = w .device
+
+  size : length (w .device .regs) ≡ 32
+  size = z .sized .regs
+
+  inside : (act : Act) → refusalIn part act arg w ≡ 0 → InRange part (w .device)
+  inside act e = in-range part (w .device) (table.accepted part act arg (w .device) _ _ e .setup .ranged)
+
+  stamps-of :
+      (act : Act) → refusalIn part act arg w ≡ 0 → (k : ℕ) → 0x18 ≤ k
+      → getD (accepted part arg w act .after .device .regs) k 0 ≢ getD (w .device .regs) k 0 → StampAct act arg (w .device) k
+  unfolding afterSelect afterEnd
+  stamps-of Select e k h n = absurd (n refl)
+  stamps-of Byte e k h n =
+      ⊎-elim
+      (λ s.
+      by-cases (bit arg 4)
+      (λ t. absurd (n (byte-stamps (bootsOf part) (topOf part) arg (w .device) size (inside Byte e .clock .inside) (λ q. true-false t (q .1)) k h)))
+      (λ f. clears refl s f))
+      (λ s. absurd (n (byte-stamps (bootsOf part) (topOf part) arg (w .device) size (inside Byte e .clock .inside) (λ q. s (q .0)) k h)))
+      (day-stage (w .device .frame .stage))
+  stamps-of End e k h n = absurd (n refl)
+  stamps-of Wait e k h n = absurd (n (wait-stays part arg w .stamps k h))
+  stamps-of Cut e k h n =
+      by-cases (vbaten (w .device .regs))
+      (λ t.
+      by-cases (vbat (w .device .regs))
+      (λ v. absurd (n (cut-is (λ (x : Device). getD (x .regs) k 0 ≡ getD (w .device .regs) k 0) arg w (cut-held arg (w .device) t v .stamps k h))))
+      (λ v.
+      by-cases (ltb k 0x1c)
+      (λ l. fails refl t v (ltb-true k 0x1c l))
+      (λ l. absurd (n (cut-is (λ (x : Device). getD (x .regs) k 0 ≡ getD (w .device .regs) k 0) arg w (cut-stamps arg (w .device) t v size .up k (ltb-false k 0x1c l)))))))
+      (λ f. forgets refl f)
+  stamps-of Up e k h n =
+      by-cases (w .device .mark)
+      (λ t.
+      by-cases (ltb k 0x1c)
+      (λ l. absurd (n (up-stamps (w .device) t size .others k (ltb-true k 0x1c l))))
+      (λ l. returns refl t (ltb-false k 0x1c l)))
+      (λ f. absurd (n (ap (λ (x : List ℕ). getD x k 0) (up-leaves (w .device) f))))
+
+  vbat-of :
+      (act : Act) → refusalIn part act arg w ≡ 0
+      → vbat (accepted part arg w act .after .device .regs) ≢ vbat (w .device .regs) → VbatAct act arg (w .device)
+  unfolding afterSelect afterEnd
+  vbat-of Select e n = absurd (n refl)
+  vbat-of Byte e n =
+      ⊎-elim
+      (λ s. by-cases (bit arg 4) (λ t. absurd (n (byte-leaves-vbat (bootsOf part) (topOf part) arg (w .device) size s t))) (λ f. resets refl s f))
+      (λ s. absurd (n (byte-other-vbat (bootsOf part) (topOf part) arg (w .device) size s)))
+      (day-stage (w .device .frame .stage))
+  vbat-of End e n = absurd (n refl)
+  vbat-of Wait e n = absurd (n (wait-stays part arg w .vbat))
+  vbat-of Cut e n =
+      by-cases (vbaten (w .device .regs))
+      (λ t.
+      by-cases (vbat (w .device .regs))
+      (λ v. absurd (n (cut-is (λ (x : Device). vbat (x .regs) ≡ vbat (w .device .regs)) arg w (cut-held arg (w .device) t v .vbat ∙ sym v))))
+      (λ v. sets refl t v))
+      (λ f. loses refl f)
+  vbat-of Up e n =
+      by-cases (w .device .mark)
+      (λ t. absurd (n (ap (λ (x : ℕ). bit x 4) (up-stamps (w .device) t size .others dayAt (omega arith)))))
+      (λ f. absurd (n (ap vbat (up-leaves (w .device) f))))
+
+-- So of every act; a refused one changes nothing.
+changed-by :
+    {A : Type 0} (f : World → A) (Q : Type 0) (part : ℕ) (act : Act) (arg : ℕ) (w : World)
+    → (refusalIn part act arg w ≡ 0 → f (accepted part arg w act .after) ≢ f w → Q)
+    → f (performed part act arg w .after) ≢ f w → (performed part act arg w .number ≡ 0) × Q
+changed-by f Q part act arg w q n =
+    by-cases (eqb (refusalIn part act arg w) 0)
+    (λ t.
+    let e = eqb-true (refusalIn part act arg w) 0 t in (
+      answered-by-table part act arg w ∙ e,
+      q e (λ s. n (ap (λ (o : Outcome). f (o .after)) (by-acceptance part act arg w e) ∙ s)),
+    ))
+    (λ t. absurd (n (ap (λ (o : Outcome). f (o .after)) (by-refusal part act arg w t))))
+
+-- a byte that is done, as the accepted one
+byte-done :
+    (part arg : ℕ) (w : World) → performed part Byte arg w .number ≡ 0
+    → performed part Byte arg w .after .device ≡ afterByte (bootsOf part) (topOf part) arg (w .device)
+byte-done part arg w e = ap (λ (o : Outcome). o .after .device) (by-acceptance part Byte arg w (sym (answered-by-table part Byte arg w) ∙ e))
+
+-- A power failure. What stays in it, from the cut to the up: power is off, and time-stamps, VBAT and mark are those of the cut.
+record Off (part : ℕ) (c v : World) : Type 0 where
+  valid : Valid part v
+  power : v .device .power ≡ false
+  stay : StampsStay (c .device) (v .device)
+
+-- one act but an up: a wait leaves them, and the others are refused
+off-act :
+    (part : ℕ) (act : Act) (arg : ℕ) (c v : World) → (act ≡ Up → arg ≢ 0) → Off part c v → Off part c (performed part act arg v .after)
+off-act part act arg c v n o =
+    record {
+      valid = performed-valid part act arg v (o .valid);
+      power = performed-case (λ (x : World). x .device .power ≡ false) part act arg v (o .power) (λ e. still act n (table.accepted part act arg (v .device) _ _ e));
+      stay = performed-case (λ (x : World). StampsStay (c .device) (x .device)) part act arg v (o .stay) (λ e. stays act n (table.accepted part act arg (v .device) _ _ e));
+    }
+  where
+    -- these act with power on alone
+    never : {A : Type 0} → not (v .device .power) ≡ false → A
+    never p = absurd (true-false (not-false (v .device .power) p) (o .power))
+
+    no-up : {A : Type 0} → ((Up ≡ Up) → arg ≢ 0) → not (eqb arg 0) ≡ false → A
+    no-up m f = absurd (m refl (eqb-true arg 0 (not-false (eqb arg 0) f)))
+
+    still :
+        (act : Act) → (act ≡ Up → arg ≢ 0) → table.Accepted part act arg (v .device) (length (v .eeprom)) (length (v .id))
+        → accepted part arg v act .after .device .power ≡ false
+    still Select m a = never (a .power)
+    still Byte m a = never (a .power)
+    still End m a = never (a .power)
+    still Wait m a = wait-spent part (bootsOf part) arg v (o .valid .range) .still .power ∙ o .power
+    still Cut m a = never (a .power)
+    still Up m a = no-up m (a .arg)
+
+    stays :
+        (act : Act) → (act ≡ Up → arg ≢ 0) → table.Accepted part act arg (v .device) (length (v .eeprom)) (length (v .id))
+        → StampsStay (c .device) (accepted part arg v act .after .device)
+    stays Select m a = never (a .power)
+    stays Byte m a = never (a .power)
+    stays End m a = never (a .power)
+    stays Wait m a = stay-then (o .stay) (wait-stays part arg v)
+    stays Cut m a = never (a .power)
+    stays Up m a = no-up m (a .arg)
+
+off-acts : (part : ℕ) (c : World) (xs : List Input) (v : World) → NoUp xs → Off part c v → Off part c (worldAfter ourChip part xs v)
+unfolding worldAfter ourChip NoUp
+off-acts part c [] v n o = o
+off-acts part c (x ∷ xs) v n o = off-acts part c xs (performed part (x .act) (x .arg) v .after) (n .1) (off-act part (x .act) (x .arg) c v (n .0) o)
+
+-- the up is done, and leaves what the mark asks for
+module _ (part mask : ℕ) (xs : List Input) (w : World) (z : Shaped part w) (e : performed part Cut mask w .number ≡ 0) (n : NoUp xs) where
+  abbrev c : World
+  c = performed part Cut mask w .after
+
+  abbrev v : World
+  v = powerOff part mask xs w
+
+  passed-cut : refusalIn part Cut mask w ≡ 0
+  passed-cut = sym (answered-by-table part Cut mask w) ∙ e
+
+  cut-done : performed part Cut mask w .after .device ≡ afterCut mask (w .device)
+  cut-done = ap (λ (o : Outcome). o .after .device) (by-acceptance part Cut mask w passed-cut) ∙ cut-device mask w
+
+  suited : table.Suited part (w .device) (length (w .eeprom)) (length (w .id))
+  suited = table.accepted part Cut mask (w .device) _ _ passed-cut .setup
+
+  begins : Off part c c
+  begins =
+      record {
+        valid = performed-valid part Cut mask w (record { range = in-range part (w .device) (suited .ranged); shaped = z });
+        power = ap (λ (x : Device). x .power) cut-done ∙ cut-beside mask (w .device) .power;
+        stay = record { stamps = λ k h. refl; vbat = refl; mark = refl };
+      }
+
+  off : Off part c v
+  off = off-acts part c xs c n begins
+
+  passed-up : refusalIn part Up 0 v ≡ 0
+  passed-up =
+      table.passed part Up 0 (v .device) (length (v .eeprom)) (length (v .id))
+      (record {
+        setup =
+            record {
+              known = suited .known;
+              eeprom = off .valid .shaped .eeprom;
+              ids = off .valid .shaped .id;
+              ranged = out-of-range part (v .device) (off .valid .range);
+            };
+        arg = refl;
+        power = off .power;
+        select = refl;
+      })
+
+  up-done : powerBack part mask xs w .after .device ≡ afterUp (v .device)
+  up-done = ap (λ (o : Outcome). o .after .device) (by-acceptance part Up 0 v passed-up)
+
+  up-size : length (v .device .regs) ≡ 32
+  up-size = off .valid .shaped .sized .regs
+
+  -- without a mark the up leaves the registers
+  unmarked-up : afterCut mask (w .device) .mark ≡ false → powerBack part mask xs w .after .device .regs ≡ v .device .regs
+  unmarked-up m =
+      ap (λ (x : Device). x .regs) up-done
+      ∙ up-leaves (v .device) (off .stay .mark ∙ ap (λ (x : Device). x .mark) cut-done ∙ m)
+
+  -- what the cut left is there at the up
+  same-up : (k : ℕ) → 0x18 ≤ k → getD (v .device .regs) k 0 ≡ getD (afterCut mask (w .device) .regs) k 0
+  same-up k h = off .stay .stamps k h ∙ ap (λ (x : Device). getD (x .regs) k 0) cut-done
+
+  vbat-up : vbat (v .device .regs) ≡ vbat (afterCut mask (w .device) .regs)
+  vbat-up = off .stay .vbat ∙ ap (λ (x : Device). vbat (x .regs)) cut-done
+
+  power-failure : PowerFailure part mask xs w
+  power-failure =
+      record {
+        done = answered-by-table part Up 0 v ∙ passed-up;
+        stamped =
+            λ t f.
+            let s = cut-stamps mask (w .device) t f (z .sized .regs) in
+            let u = up-stamps (v .device) (off .stay .mark ∙ ap (λ (x : Device). x .mark) cut-done ∙ s .mark) up-size in
+            let at : (k : ℕ) → k < 0x1c → getD (powerBack part mask xs w .after .device .regs) k 0 ≡ getD (v .device .regs) k 0 =
+            λ k h. ap (λ (x : Device). getD (x .regs) k 0) up-done ∙ u .others k h in (
+              shows-kept 0x18 (afterCut mask (w .device) .regs) (powerBack part mask xs w .after .device .regs) (w .device .regs)
+              (λ k h l. at k (omega arith) ∙ same-up k h) (s .down),
+              subst (λ (x : Device). Shows 0x1c (x .regs) (v .device .regs)) (sym up-done) (u .up),
+              ap (λ (x : ℕ). bit x 4) (at dayAt (omega arith)) ∙ vbat-up ∙ s .vbat,
+            );
+        held =
+            λ t b.
+            let s = cut-held mask (w .device) t b in
+            let u = unmarked-up (s .mark) in (
+              λ k h. ap (λ (x : List ℕ). getD x k 0) u ∙ same-up k h ∙ s .stamps k h,
+              ap vbat u ∙ vbat-up ∙ s .vbat,
+            );
+        lost =
+            λ f.
+            let s = cut-lost mask (w .device) f in
+            let u = unmarked-up (s .mark) in (
+              λ k h l. ap (λ (x : List ℕ). getD x k 0) u ∙ same-up k h ∙ s .stamps k h l,
+              ap vbat u ∙ vbat-up ∙ s .vbat,
+            );
+      }
+
+-- Every run from fresh: time-stamps only while VBAT is set, a mark only while it is.
+record Settled (d : Device) : Type 0 where
+  empty : vbat (d .regs) ≡ false → NoStamps (d .regs)
+  marked : d .mark ≡ true → vbat (d .regs) ≡ true
+
+stay-settled : (d e : Device) → StampsStay d e → Settled d → Settled e
+stay-settled d e s t =
+    record {
+      empty = λ f k h l. s .stamps k h ∙ t .empty (sym (s .vbat) ∙ f) k h l;
+      marked = λ m. s .vbat ∙ t .marked (sym (s .mark) ∙ m);
+    }
+
+module _ (part arg : ℕ) (w : World) (v : Valid part w) (t : Settled (w .device)) where
+  settled-size : length (w .device .regs) ≡ 32
+  settled-size = v .shaped .sized .regs
+
+  -- a byte finds power on, and so no mark
+  byte-settled : wrongPower Byte (w .device .power) ≡ false → Settled (afterByte (bootsOf part) (topOf part) arg (w .device))
+  unfolding afterByte
+  byte-settled p =
+      let d = w .device in
+      let boots = bootsOf part in
+      let top = topOf part in
+      record {
+        empty =
+            λ f.
+            ⊎-elim
+            (λ s.
+            by-cases (bit arg 4)
+            (λ b k h l.
+            byte-stamps boots top arg d settled-size (v .range .clock .inside) (λ q. true-false b (q .1)) k h
+            ∙ t .empty (sym (byte-leaves-vbat boots top arg d settled-size s b) ∙ f) k h l)
+            (λ b. byte-clears boots top arg d settled-size s b .1))
+            (λ s k h l.
+            byte-stamps boots top arg d settled-size (v .range .clock .inside) (λ q. s (q .0)) k h
+            ∙ t .empty (sym (byte-other-vbat boots top arg d settled-size s) ∙ f) k h l)
+            (day-stage (d .frame .stage));
+        marked =
+            λ m.
+            absurd
+            (true-false (sym (written-beside boots d arg (d .frame .stage) .mark) ∙ m) (v .range .power .unmarked (not-false (d .power) p)));
+      }
+
+  cut-settled : Settled (afterCut arg (w .device))
+  cut-settled =
+      let d = w .device in
+      by-cases (vbaten (d .regs))
+      (λ b.
+      by-cases (vbat (d .regs))
+      (λ h. let s = cut-held arg d b h in record { empty = λ f. absurd (true-false (s .vbat) f); marked = λ m. s .vbat })
+      (λ h. let s = cut-stamps arg d b h settled-size in record { empty = λ f. absurd (true-false (s .vbat) f); marked = λ m. s .vbat }))
+      (λ b. let s = cut-lost arg d b in record { empty = λ f. s .stamps; marked = λ m. absurd (true-false m (s .mark)) })
+
+  up-settled : Settled (afterUp (w .device))
+  up-settled =
+      let d = w .device in
+      record {
+        empty =
+            λ f.
+            by-cases (d .mark)
+            (λ m. absurd (true-false (ap (λ (x : ℕ). bit x 4) (up-stamps d m settled-size .others dayAt (omega arith)) ∙ t .marked m) f))
+            (λ m. let u = up-leaves d m in subst NoStamps (sym u) (t .empty (ap vbat (sym u) ∙ f)));
+        marked = λ m. absurd (true-false m (up-mark d));
+      }
+
+  settled-of : (act : Act) → refusalIn part act arg w ≡ 0 → Settled (accepted part arg w act .after .device)
+  unfolding afterSelect afterEnd
+  settled-of Select e = record { empty = t .empty; marked = t .marked }
+  settled-of Byte e = byte-settled (table.accepted part Byte arg (w .device) _ _ e .power)
+  settled-of End e = record { empty = t .empty; marked = t .marked }
+  settled-of Wait e = stay-settled (w .device) _ (wait-stays part arg w) t
+  settled-of Cut e = cut-is Settled arg w cut-settled
+  settled-of Up e = up-settled
+
+settled-run : (part : ℕ) (xs : List Input) (w : World) → Valid part w → Settled (w .device) → Settled (worldAfter ourChip part xs w .device)
+unfolding worldAfter ourChip
+settled-run part [] w v t = t
+settled-run part (x ∷ xs) w v t =
+    settled-run part xs (performed part (x .act) (x .arg) w .after) (performed-valid part (x .act) (x .arg) w v)
+    (performed-case (λ (y : World). Settled (y .device)) part (x .act) (x .arg) w t (λ e. settled-of part (x .arg) w v t (x .act) e))
+
+fresh-settled : Settled fresh
+unfolding fresh
+fresh-settled = record { empty = λ f. fresh-stamp; marked = λ m. absurd (true≢false (sym m)) }
+
+-- The promise.
+pub time-stamps : TimeStamps
+time-stamps =
+    record {
+      failure = power-failure;
+      cleared =
+          λ part arg w z e s f.
+          let b = byte-clears (bootsOf part) (topOf part) arg (w .device) (z .sized .regs) s f in
+          rw (byte-done part arg w e) (b .1, b .0);
+      left =
+          λ part arg w z e s b.
+          let r = in-range part (w .device) (table.accepted part Byte arg (w .device) _ _ (sym (answered-by-table part Byte arg w) ∙ e) .setup .ranged) in
+          rw (byte-done part arg w e)
+          (byte-stamps (bootsOf part) (topOf part) arg (w .device) (z .sized .regs) (r .clock .inside) (λ q. true-false b (q .1)),
+          byte-leaves-vbat (bootsOf part) (topOf part) arg (w .device) (z .sized .regs) s b);
+      only =
+          λ part act arg w k z h.
+          changed-by (λ (x : World). getD (x .device .regs) k 0) (StampAct act arg (w .device) k) part act arg w
+          (λ e n. stamps-of part arg w z act e k h n);
+      onlyVbat =
+          λ part act arg w z.
+          changed-by (λ (x : World). vbat (x .device .regs)) (VbatAct act arg (w .device)) part act arg w (λ e n. vbat-of part arg w z act e n);
+      unmarked = λ part p xs. reached-in-range part p xs .power .unmarked;
+      empty = λ part p xs. settled-run part xs (freshWorld part) (fresh-valid part) fresh-settled .empty;
+    }
