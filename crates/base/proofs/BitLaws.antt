@@ -56,6 +56,10 @@ and-assoc =
 pub and-inside : (v w m : ℕ) → bitAnd w m ≡ w → bitAnd (bitAnd v w) m ≡ bitAnd v w
 and-inside v w m e = and-assoc v w m ∙ ap (bitAnd v) e
 
+-- what is inside a mask is so under another one too
+pub inside-and : (v c m : ℕ) → bitAnd v m ≡ v → bitAnd (bitAnd v c) m ≡ bitAnd v c
+inside-and v c m e = and-assoc v c m ∙ ap (bitAnd v) (and-comm c m) ∙ sym (and-assoc v m c) ∙ ap (λ (n : ℕ). bitAnd n c) e
+
 -- an and goes into both parts of an or
 high-digit : (a b : ℕ) → bitOr a b % 2 ≡ max (a % 2) (b % 2)
 high-digit a b = omega (arith, or-step a b)
@@ -71,9 +75,7 @@ and-or =
 -- so a number written over another under a mask is inside every mask that both lie inside
 pub over-inside : (old v w c m : ℕ) → bitAnd old m ≡ old → bitAnd w m ≡ w → bitAnd (bitOr (bitAnd old c) (bitAnd v w)) m ≡ bitOr (bitAnd old c) (bitAnd v w)
 over-inside old v w c m e f =
-    let p : bitAnd (bitAnd old c) m ≡ bitAnd old c =
-    and-assoc old c m ∙ ap (bitAnd old) (and-comm c m) ∙ sym (and-assoc old m c) ∙ ap (λ (n : ℕ). bitAnd n c) e in
-    and-or (bitAnd old c) (bitAnd v w) m ∙ (λ i. bitOr (p i) (and-inside v w m f i))
+    and-or (bitAnd old c) (bitAnd v w) m ∙ (λ i. bitOr (inside-and old c m e i) (and-inside v w m f i))
 
 -- bits of 0 and of a power of two
 pub zero-bit : (k : ℕ) → k < 8 → bit 0 k ≡ false

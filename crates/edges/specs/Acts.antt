@@ -21,6 +21,7 @@ use Rattle.record.specs.declared.Target.{Target}
 use Rattle.record.specs.declared.Target.the-variants.{Eeprom, Id, Status}
 use Rattle.record.specs.Fresh.{fresh}
 use Rattle.record.specs.Scene.{chip, started}
+use Rattle.record.specs.Stamps.{stamped, unstamped}
 use Rattle.record.specs.Setters.{counts, withLoad, withWel, withProtection, withCycle}
 use Rattle.record.specs.World.{World, world}
 use Rattle.refusals.specs.Range.{outOfRange, clockOut, frameOut, cycleOut, powerOut, bitOutside}
@@ -66,9 +67,9 @@ twice b = Driven b ∷ Driven b ∷ []
 
 unfoldable pub RegistersShown : Type 0
 RegistersShown =
-    -- F13, C4. each mask: FFh written everywhere
+    -- F13, C4, P16. each mask: FFh written everywhere; VBAT, which was clear, stays clear
     (after 1 (frameOf (0x12 ∷ 0x00 ∷ replicate 32 0xff)) (scene (replicate 32 0) (counts 0 0 0 0 0)) .device .regs
-    ≡ 0xff ∷ 0xff ∷ 0x7f ∷ 0xff ∷ 0x1f ∷ 0x3f ∷ 0x1f ∷ 0xff ∷ 0xff ∷ 0xff ∷ 0xff ∷ 0xff ∷ 0x7f ∷ 0x7f ∷ 0x3f ∷ 0xff
+    ≡ 0xff ∷ 0xff ∷ 0x7f ∷ 0xff ∷ 0x0f ∷ 0x3f ∷ 0x1f ∷ 0xff ∷ 0xff ∷ 0xff ∷ 0xff ∷ 0xff ∷ 0x7f ∷ 0x7f ∷ 0x3f ∷ 0xff
     ∷ 0x3f ∷ 0x1f ∷ 0xff ∷ 0x7f ∷ 0x7f ∷ 0x3f ∷ 0xff ∷ 0x3f ∷ replicate 8 0)
     -- F14, F15, F16, F18, C4. every register read with all made bits: 12/24 in both alarms' hours, OSCON, a leap year
     × (replies 1 (0x13 ∷ 0x00 ∷ []) (replicate 32 0)
@@ -182,8 +183,8 @@ PowerShown =
     -- P5, P6. the cycle is gone, and WEL
     × (performed 1 Cut 0x01 (loaded (Status Half)) .after .device .cycle .left ≡ 0)
     × (performed 1 Cut 0x01 (loaded (Status Half)) .after .device .guard .wel ≡ false)
-    -- P7, P9. with VBATEN all stays but bit 7 of 0Ah and the watchdog's counts, and the ticks go on
-    × (performed 1 Cut 0 busy .after .device .regs ≡ set busyRegs 0x0a 0x25)
+    -- P7, P9, P13. with VBATEN all stays but bit 7 of 0Ah, the watchdog's counts, VBAT and the power-down time-stamp, and the ticks go on
+    × (performed 1 Cut 0 busy .after .device .regs ≡ set (set (set (set (set (set busyRegs 0x0a 0x25) 0x04 0x1a) 0x18 0x56) 0x19 0x18) 0x1a 0x21) 0x1b 0x49)
     × (performed 1 Cut 0 busy .after .device .sram ≡ replicate 64 7)
     × (performed 1 Cut 0 busy .after .device .counters ≡ counts 5 32 0 0 0)
     × (after 1 (does Cut 0 ∷ waiting 3) busy .device .counters ≡ counts 8 32 0 0 0)
@@ -206,6 +207,7 @@ PowerShown =
     × (fresh .sram ≡ replicate 64 0)
     × (fresh .counters ≡ counts 0 0 0 0 0)
     × (fresh .power ≡ true)
+    × (fresh .mark ≡ false)
     × (fresh .guard ≡ record { wel = false; protection = Nothing; lock = Closed })
     × (fresh .frame .stage ≡ Idle)
     × (fresh .cycle .left ≡ 0)
@@ -215,9 +217,9 @@ ActsShown = RegistersShown × FramesShown × PowerShown
 
 -- Each of them computes.
 pub acts-shown : ActsShown
-unfolding ActsShown RegistersShown FramesShown PowerShown validField after replies bytesAnswered afterBytes drivenAll leapYear worldAfter ourChip sent fresh performed refusalOf outOfRange clockOut frameOut cycleOut powerOut bitOutside every statusByte afterSelect afterByte nextReply readClock writeClock afterWrite afterEnd carried cycleAfter welAfter afterCut cutCount cutWorld afterUp waitedBy tick cycleTick cycleDevice clockwork changed irqLow wdoLow oscillatorTick watchdogTick calendarTick storeUnder members
+unfolding ActsShown RegistersShown FramesShown PowerShown validField after replies bytesAnswered afterBytes drivenAll leapYear worldAfter ourChip sent fresh performed refusalOf outOfRange clockOut frameOut cycleOut powerOut bitOutside every statusByte afterSelect afterByte nextReply readClock writeClock afterWrite afterEnd carried cycleAfter welAfter afterCut cutCount cutWorld afterUp stamped unstamped waitedBy tick cycleTick cycleDevice clockwork changed irqLow wdoLow oscillatorTick watchdogTick calendarTick storeUnder members
 acts-shown = (
   (refl, refl, refl, refl, refl, refl, refl, refl, refl, refl, refl, refl, refl, refl, refl),
   (refl, refl, refl, refl, refl, refl, refl, refl, refl, refl, refl, refl, refl, refl, refl, refl, refl, refl, refl, refl, refl, refl, refl, refl, refl, refl, refl, refl, refl, refl, refl, refl, refl, refl, refl, refl, refl, refl, refl, refl, refl, refl),
-  (refl, refl, refl, refl, refl, refl, refl, refl, refl, refl, refl, refl, refl, refl, refl, refl, refl, refl, refl, refl, refl, refl, refl, refl, refl, refl, refl, refl, refl, refl, refl, refl, refl, refl, refl),
+  (refl, refl, refl, refl, refl, refl, refl, refl, refl, refl, refl, refl, refl, refl, refl, refl, refl, refl, refl, refl, refl, refl, refl, refl, refl, refl, refl, refl, refl, refl, refl, refl, refl, refl, refl, refl),
 )

@@ -2,10 +2,11 @@
 -- Assumes nothing.
 use Rattle.edges.specs.Ticks.{WaitsShown, waits-shown}
 use Rattle.edges.specs.Acts.{ActsShown, acts-shown}
+use Rattle.edges.specs.Stamps.{StampsShown, stamps-shown}
 
 pub Witnesses : Type 0
-Witnesses = WaitsShown × ActsShown
+Witnesses = WaitsShown × ActsShown × StampsShown
 
 pub witnesses : Witnesses
 unfolding Witnesses
-witnesses = (waits-shown, acts-shown)
+witnesses = (waits-shown, acts-shown, stamps-shown)

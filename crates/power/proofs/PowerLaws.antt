@@ -2,11 +2,11 @@
 -- Assumes nothing.
 use Prim.Native.Nat.{ℕ, _+_, _%_, _<_, _≤_}
 use native.Mathlib.Omega.{arith}
-use mathlib.Core.Path.{_≡_, refl, sym, ap, subst, _∙_}
+use mathlib.Core.Path.{_≡_, refl, sym, subst, _∙_}
 use mathlib.Core.Bool.{Bool, true, false, true≢false, false≢true}
 use mathlib.Core.Logic.{inl, _≢_}
 use mathlib.Core.List.{List}
-use lib.Bits.{bitAnd, bitOr, and-le-r}
+use lib.Bits.{bitAnd, and-le-r}
 use lib.Count.{ones, ones-le}
 use lib.Dec.{eqb}
 use lib.ListN.{length, getD, set, length-set}
@@ -16,7 +16,7 @@ use mir.Syntax.{w8}
 use Rattle.base.specs.Words.{every, bit, flag, members, changes}
 use Rattle.base.proofs.Tests.{pick-case, pick-when, flag-below}
 use Rattle.base.proofs.Every.{same-below}
-use Rattle.base.proofs.BitLaws.{count-ones, members-most, below-mask, and-or}
+use Rattle.base.proofs.BitLaws.{count-ones, members-most, below-mask}
 use Rattle.base.proofs.StoreLaws.{set-case, store-changes}
 use Rattle.record.specs.declared.Device.{Device}
 use Rattle.record.specs.declared.EepromAddress.{EepromAddress}
@@ -37,7 +37,7 @@ use Rattle.record.proofs.StampLaws.{stamped-other, stamped-length}
 use Rattle.record.proofs.WorldLaws.{sized-by, replicate-bytes, eeprom-case, id-case}
 use Rattle.refusals.specs.InRange.{InRange}
 use Rattle.refusals.proofs.RangeLaws.{fresh-facts}
-use Rattle.refusals.proofs.KeepLaws.{ClockOf, AllInside, Beside, beside, watchdog-in, delay-in, pulse-in, regs-in, set-inside, stamped-inside, in-range-beside}
+use Rattle.refusals.proofs.KeepLaws.{ClockOf, AllInside, Beside, beside, watchdog-in, delay-in, pulse-in, regs-in, set-inside, stamped-inside, with-vbat-inside, in-range-beside}
 use Rattle.power.specs.Power.{watchdogCut, failureStamped, forgotten, stoppedBy, afterCut, cutCount, cutWorld, returnStamped, afterUp}
 
 -- The ones of the loaded offsets under a mask are the offsets that are stored.
@@ -95,9 +95,7 @@ watchdog-cut-in boots d r =
 failure-inside : (regs : List ℕ) → AllInside regs → AllInside (failureStamped regs)
 failure-inside regs i =
     let l : List ℕ = stamped powerDownAt regs in
-    let j : AllInside l = stamped-inside powerDownAt regs (omega arith) (omega arith) i in
-    pick-case AllInside (vbat regs) i
-    (set-inside l dayAt (bitOr (getD l dayAt 0) 0x10) (and-or (getD l dayAt 0) 0x10 0x1f ∙ ap (λ (n : ℕ). bitOr n 0x10) (j dayAt (omega arith))) j)
+    pick-case AllInside (vbat regs) i (with-vbat-inside l (stamped-inside powerDownAt regs (omega arith) (omega arith) i))
 
 pub failure-other : (regs : List ℕ) (k : ℕ) → k < powerDownAt → k ≢ dayAt → getD (failureStamped regs) k 0 ≡ getD regs k 0
 failure-other regs k h n =

@@ -3,13 +3,13 @@
 use Prim.Native.Nat.{ℕ, _<_, _≤_}
 use native.Mathlib.Omega.{arith}
 use mathlib.Core.Path.{_≡_, refl, sym, ap, subst, _∙_}
-use mathlib.Core.Bool.{true, false, not, _&&_, or-true}
+use mathlib.Core.Bool.{true, false, or-true}
 use mathlib.Core.Logic.{inl, inr, _≢_}
 use mathlib.Core.List.{List}
 use lib.ListN.{length, getD}
 use lib.Seq.{getD-set-same, getD-set-other}
 use Rattle.base.specs.Words.{every, bit}
-use Rattle.base.proofs.Tests.{true-false, yes, no}
+use Rattle.base.proofs.Tests.{pick-when, true-false, yes, no}
 use Rattle.base.proofs.Every.{same-from}
 use Rattle.base.proofs.BitLaws.{or-bit}
 use Rattle.record.specs.declared.Device.{Device}
@@ -30,9 +30,19 @@ cut-register mask d k t n =
 pub cut-mark : (mask : ℕ) (d : Device) → afterCut mask d .mark ≡ takesStamp (d .regs)
 cut-mark mask d = cut-beside mask d .mark
 
--- VBAT set by a cut
+-- VBAT is set where it was not, and beside it nothing but the time-stamp changes
 with-vbat : (regs : List ℕ) → dayAt < length regs → vbat (withVbat regs) ≡ true
 with-vbat regs l = ap (λ (n : ℕ). bit n 4) (getD-set-same regs dayAt _ 0 l) ∙ or-bit (getD regs dayAt 0) 0x10 4 ∙ or-true (bit (getD regs dayAt 0) 4)
+
+failure-vbat : (regs : List ℕ) → vbat regs ≡ false → dayAt < length regs → vbat (failureStamped regs) ≡ true
+failure-vbat regs f l =
+    pick-when (λ (x : List ℕ). vbat x ≡ true) (vbat regs) (λ t. absurd (true-false t f))
+    (λ t. with-vbat (stamped powerDownAt regs) (omega (arith, l, stamped-length powerDownAt regs)))
+
+failure-stamp : (regs : List ℕ) (k : ℕ) → vbat regs ≡ false → powerDownAt ≤ k → getD (failureStamped regs) k 0 ≡ getD (stamped powerDownAt regs) k 0
+failure-stamp regs k f h =
+    pick-when (λ (x : List ℕ). getD x k 0 ≡ getD (stamped powerDownAt regs) k 0) (vbat regs) (λ t. absurd (true-false t f))
+    (λ t. getD-set-other (stamped powerDownAt regs) dayAt k _ 0 (λ z. omega arith))
 
 -- P13. A cut that finds VBATEN set and VBAT clear.
 pub record Stamped (d e : Device) : Type 0 where
@@ -45,16 +55,13 @@ pub cut-stamps : (mask : ℕ) (d : Device) → vbaten (d .regs) ≡ true → vba
 cut-stamps mask d t f l =
     let regs : List ℕ = d .regs in
     let s : List ℕ = stamped powerDownAt regs in
-    let e : failureStamped regs ≡ withVbat s = sym (no regs (withVbat s) f) in
-    let at : (k : ℕ) → k ≢ watchdogAt → getD (afterCut mask d .regs) k 0 ≡ getD (withVbat s) k 0 =
-    λ k n. cut-register mask d k t n ∙ ap (λ (x : List ℕ). getD x k 0) e in
-    let beside : (k : ℕ) → powerDownAt ≤ k → getD (afterCut mask d .regs) k 0 ≡ getD s k 0 =
-    λ k h. at k (λ z. omega arith) ∙ getD-set-other s dayAt k _ 0 (λ z. omega arith) in
+    let at : (k : ℕ) → powerDownAt ≤ k → getD (afterCut mask d .regs) k 0 ≡ getD s k 0 =
+    λ k h. cut-register mask d k t (λ z. omega arith) ∙ failure-stamp regs k f h in
     record {
-      down = shows-kept powerDownAt s (afterCut mask d .regs) regs (λ k h g. beside k h) (stamped-shows powerDownAt regs (omega (arith, l)));
-      up = λ k h. beside k (omega arith) ∙ stamped-other powerDownAt regs k (inr h);
-      vbat = ap (λ (n : ℕ). bit n 4) (at dayAt (λ z. omega arith)) ∙ with-vbat s (omega (arith, l, stamped-length powerDownAt regs));
-      mark = cut-mark mask d ∙ (λ i. t i && not (f i));
+      down = shows-kept powerDownAt s (afterCut mask d .regs) regs (λ k h g. at k h) (stamped-shows powerDownAt regs (omega (arith, l)));
+      up = λ k h. at k (omega arith) ∙ stamped-other powerDownAt regs k (inr h);
+      vbat = ap (λ (n : ℕ). bit n 4) (cut-register mask d dayAt t (λ z. omega arith)) ∙ failure-vbat regs f (omega (arith, l));
+      mark = cut-mark mask d ∙ simp (t, f);
     }
 
 -- P14. A cut that finds VBATEN and VBAT set leaves both time-stamps, and no mark.
@@ -71,7 +78,7 @@ cut-held mask d t v =
     record {
       stamps = λ k h. at k (λ z. omega arith);
       vbat = ap (λ (n : ℕ). bit n 4) (at dayAt (λ z. omega arith)) ∙ v;
-      mark = cut-mark mask d ∙ (λ i. t i && not (v i));
+      mark = cut-mark mask d ∙ simp (t, v);
     }
 
 -- P14. One that finds VBATEN clear leaves both time-stamps 0, VBAT clear and no mark.
@@ -90,7 +97,7 @@ cut-lost mask d f =
     record {
       stamps = λ k l h. ap (λ (x : List ℕ). getD x k 0) regs ∙ fresh-stamp k l h;
       vbat = ap vbat regs;
-      mark = cut-mark mask d ∙ (λ i. f i && not (vbat (d .regs)));
+      mark = cut-mark mask d ∙ simp f;
     }
 
 -- P15. An up that finds the mark copies the time into the power-up time-stamp; one that finds none changes no register. Neither leaves a mark.

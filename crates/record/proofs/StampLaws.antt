@@ -1,6 +1,6 @@
 -- Laws of the time-stamps as registers: what a copied one shows, what it and the clearing leave alone, and that both leave as many registers.
 -- Assumes nothing.
-use Prim.Native.Nat.{ℕ, zero, suc, _+_, _*_, _/_, _%_, _<_, _≤_}
+use Prim.Native.Nat.{ℕ, zero, suc, _+_, _/_, _%_, _<_, _≤_}
 use native.Mathlib.Nat.{suc-inj}
 use native.Mathlib.Omega.{arith}
 use mathlib.Core.Path.{_≡_, refl, ap, _∙_}
@@ -12,8 +12,8 @@ use lib.ListN.{length, getD, set, length-set}
 use lib.Seq.{getD-set-same, getD-set-other}
 use Rattle.base.proofs.StoreLaws.{set-each}
 use Rattle.base.proofs.Tests.{by-cases}
-use Rattle.record.specs.Registers.{minutesAt, hoursAt, dayAt, dateAt, monthAt, powerDownAt, powerUpAt}
-use Rattle.record.specs.Stamps.{stampAt, stamped, unstamped, Shows}
+use Rattle.record.specs.Registers.{minutesAt, dateAt, powerDownAt, powerUpAt}
+use Rattle.record.specs.Stamps.{stampAt, stampHours, stampMonth, stamped, unstamped, Shows}
 
 -- What holds of each register and of each new one at its place, holds of each after a time-stamp is put there.
 module _ (P : ℕ → ℕ → Type 0) (a : ℕ) where
@@ -27,8 +27,8 @@ module _ (P : ℕ → ℕ → Type 0) (a : ℕ) where
       set-each P l3 (a + 3) y s (set-each P l2 (a + 2) t r (set-each P l1 (a + 1) h q (set-each P regs a m p e)))
 
   pub stamped-each :
-      (regs : List ℕ) → P a (getD regs minutesAt 0) → P (a + 1) (getD regs hoursAt 0 % 128) → P (a + 2) (getD regs dateAt 0)
-      → P (a + 3) (getD regs monthAt 0 % 32 + getD regs dayAt 0 % 8 * 32) → ((k : ℕ) → P k (getD regs k 0))
+      (regs : List ℕ) → P a (getD regs minutesAt 0) → P (a + 1) (stampHours regs) → P (a + 2) (getD regs dateAt 0)
+      → P (a + 3) (stampMonth regs) → ((k : ℕ) → P k (getD regs k 0))
       → (k : ℕ) → P k (getD (stamped a regs) k 0)
   unfolding stamped
   stamped-each regs = at-each _ _ _ _ regs
@@ -63,7 +63,6 @@ stamped-other a regs = at-other a _ _ _ _ regs
 pub unstamped-other : (regs : List ℕ) (k : ℕ) → k < powerDownAt → getD (unstamped regs) k 0 ≡ getD regs k 0
 unfolding unstamped
 unstamped-other regs k h = at-other powerUpAt 0 0 0 0 (first regs) k (inl (omega arith)) ∙ at-other powerDownAt 0 0 0 0 regs k (inl h)
-
 
 -- A time-stamp of zeros is 0, however many registers there are.
 zero-step : (l : List ℕ) (i k : ℕ) → (k ≢ i → getD l k 0 ≡ 0) → getD (set l i 0) k 0 ≡ 0
@@ -132,10 +131,10 @@ at-holds a m h t y regs l =
 pub stamped-shows : (a : ℕ) (regs : List ℕ) → a + 3 < length regs → Shows a (stamped a regs) regs
 unfolding stamped
 stamped-shows a regs l =
-    let p = at-holds a (getD regs minutesAt 0) (getD regs hoursAt 0 % 128) (getD regs dateAt 0) (getD regs monthAt 0 % 32 + getD regs dayAt 0 % 8 * 32) regs l in
+    let p = at-holds a (getD regs minutesAt 0) (stampHours regs) (getD regs dateAt 0) (stampMonth regs) regs l in
     record {
       minutes = p .minutes;
-      hours = p .hours;
+      hours = omega (arith, p .hours);
       date = p .date;
       month = omega (arith, p .month);
       day = omega (arith, p .month);

@@ -12,11 +12,16 @@ use Rattle.record.specs.Registers.{minutesAt, hoursAt, dayAt, dateAt, mo
 abbrev pub stampAt : ℕ → ℕ → ℕ → ℕ → ℕ → List ℕ → List ℕ
 stampAt a minutes hours date month regs = set (set (set (set regs a minutes) (a + 1) hours) (a + 2) date) (a + 3) month
 
--- P12. The time that the registers show is copied into the time-stamp from a, as it stands, valid or not: hours without CALSGN, the day of
--- the week in the top three bits of month.
+-- P12. The hours without CALSGN; the month with the day of the week in the top three bits.
+abbrev pub stampHours : List ℕ → ℕ
+stampHours regs = getD regs hoursAt 0 % 128
+
+abbrev pub stampMonth : List ℕ → ℕ
+stampMonth regs = getD regs monthAt 0 % 32 + getD regs dayAt 0 % 8 * 32
+
+-- P12. The time that the registers show is copied into the time-stamp from a, as it stands, valid or not.
 unfoldable pub stamped : ℕ → List ℕ → List ℕ
-stamped a regs =
-    stampAt a (getD regs minutesAt 0) (getD regs hoursAt 0 % 128) (getD regs dateAt 0) (getD regs monthAt 0 % 32 + getD regs dayAt 0 % 8 * 32) regs
+stamped a regs = stampAt a (getD regs minutesAt 0) (stampHours regs) (getD regs dateAt 0) (stampMonth regs) regs
 
 -- P16. both time-stamps 0
 unfoldable pub unstamped : List ℕ → List ℕ

@@ -3,22 +3,22 @@
 -- Assumes nothing.
 use Prim.Native.Nat.{ℕ, _+_, _<_, _≤_}
 use native.Mathlib.Omega.{arith}
-use mathlib.Core.Path.{_≡_, refl, sym, subst}
+use mathlib.Core.Path.{_≡_, refl, sym, ap, subst, _∙_}
 use mathlib.Core.Bool.{Bool, false}
 use mathlib.Core.List.{List}
-use lib.Bits.{bitAnd, and-le-r}
+use lib.Bits.{bitAnd, bitOr, and-le-r}
 use lib.ListN.{getD, set}
 use Rattle.base.specs.Words.{every}
 use Rattle.base.proofs.Every.{same-from, bound-below}
-use Rattle.base.proofs.BitLaws.{below-mask}
+use Rattle.base.proofs.BitLaws.{below-mask, inside-and, and-or}
 use Rattle.base.proofs.StoreLaws.{set-case}
 use Rattle.record.specs.declared.Device.{Device}
 use Rattle.record.specs.declared.Counters.{Counters}
 use Rattle.record.specs.declared.Guard.{Guard}
 use Rattle.record.specs.Part.{bootsOf}
-use Rattle.record.specs.Registers.{st, minutesAt, dateAt, watchdogAt, powerDownAt, kept, periodOf, startupTicks, dividerTicks, longPulse, delayTicks}
+use Rattle.record.specs.Registers.{st, minutesAt, dayAt, dateAt, watchdogAt, powerDownAt, kept, periodOf, startupTicks, dividerTicks, longPulse, delayTicks}
 use Rattle.record.specs.Setters.{withRegs, withSram, withCounters, withDivider, withStartup, withWatchdog, withDelay, withPulse, withGuard, withLeft}
-use Rattle.record.specs.Stamps.{stamped, unstamped}
+use Rattle.record.specs.Stamps.{stamped, unstamped, withVbat, withoutVbat}
 use Rattle.record.proofs.StampLaws.{stamped-each, unstamped-each}
 use Rattle.refusals.specs.InRange.{ClockRange, InRange}
 
@@ -93,6 +93,14 @@ stamped-inside a regs l h i =
 
 pub unstamped-inside : (regs : List ℕ) → AllInside regs → AllInside (unstamped regs)
 unstamped-inside regs = unstamped-each (λ k v. k < 32 → Inside k v) regs (λ k l h g. refl)
+
+-- and so does VBAT, set or cleared
+pub with-vbat-inside : (regs : List ℕ) → AllInside regs → AllInside (withVbat regs)
+with-vbat-inside regs i =
+    set-inside regs dayAt _ (and-or (getD regs dayAt 0) 0x10 0x1f ∙ ap (λ (n : ℕ). bitOr n 0x10) (i dayAt (omega arith))) i
+
+pub without-vbat-inside : (regs : List ℕ) → AllInside regs → AllInside (withoutVbat regs)
+without-vbat-inside regs i = set-inside regs dayAt _ (inside-and (getD regs dayAt 0) 0xef 0x1f (i dayAt (omega arith))) i
 
 -- e has all of d but registers, SRAM and counts
 pub record Beside (d e : Device) : Type 0 where

@@ -4,17 +4,17 @@ use mathlib.Core.Path.{_≡_, refl, sym, ap, subst, _∙_}
 use mathlib.Core.Bool.{Bool, false, not, _&&_}
 use mathlib.Core.List.{List}
 use mathlib.Core.Logic.{_≢_}
-use Prim.Native.Nat.{ℕ, _-_, _<_, _≤_}
+use Prim.Native.Nat.{ℕ, _<_, _≤_}
 use native.Mathlib.Omega.{arith}
 use borrow.Author.Tests.{ltb-true, eqb-true, eqb-false}
-use lib.Bits.{bitAnd, and-comm}
+use lib.Bits.{bitAnd}
 use lib.Dec.{ltb, eqb}
 use lib.ListN.{length, getD, set, length-set}
 use lib.Seq.{getD-set-other}
 use Rattle.base.specs.Words.{bit, every}
 use Rattle.base.proofs.Tests.{pick-case, pick-when, true-false}
 use Rattle.base.proofs.Every.{same-below}
-use Rattle.base.proofs.BitLaws.{and-assoc, over-inside}
+use Rattle.base.proofs.BitLaws.{over-inside}
 use Rattle.base.proofs.StoreLaws.{set-case}
 use Rattle.record.specs.declared.Device.{Device}
 use Rattle.record.specs.declared.ClockAddress.{ClockAddress}
@@ -24,14 +24,14 @@ use Rattle.record.specs.Setters.{withRegs, withSram, withStartup, withWatchdog,
 use Rattle.record.proofs.PeriodLaws.{period-least}
 use Rattle.record.proofs.StampLaws.{unstamped-length, unstamped-other}
 use Rattle.refusals.specs.InRange.{InRange}
-use Rattle.refusals.proofs.KeepLaws.{ClockOf, Inside, AllInside, Paced, Halted, startup-in, watchdog-in, delay-in, regs-in, set-inside, unstamped-inside, Beside, beside, in-range-beside}
+use Rattle.refusals.proofs.KeepLaws.{ClockOf, Inside, AllInside, Paced, Halted, startup-in, watchdog-in, delay-in, regs-in, set-inside, unstamped-inside, without-vbat-inside, Beside, beside, in-range-beside}
 use Rattle.registers.specs.Write.{delayAfter, dayWritten, afterWrite, underMask, writeClock}
 
 -- What holds of what each kind of WRITE leaves, holds of what WRITE leaves: a register's write with what follows from it; an SRAM byte; nothing.
 pub write-case :
     (P : Device → Type 0) (boots : Bool) (d : Device) (a : ClockAddress) (v : ℕ)
     → ((s : ℕ) → a .0 < 32 → s ≡ underMask (getD writable (a .0) 0) (getD (d .regs) (a .0) 0) v
-      → P (afterWrite boots (vbat (d .regs)) (a .0) (withRegs d (set (d .regs) (a .0) s))))
+    → P (afterWrite boots (vbat (d .regs)) (a .0) (withRegs d (set (d .regs) (a .0) s))))
     → ((k : ℕ) → P (withSram d (set (d .sram) k v))) → P d → P (writeClock boots d a v)
 unfolding writeClock
 write-case P boots d a v p q r =
@@ -85,17 +85,14 @@ write-sram P boots d a v p q =
 pub written-inside : (a old v : ℕ) → a < 32 → Inside a old → Inside a (underMask (getD writable a 0) old v)
 unfolding every
 written-inside a old v h i =
-    over-inside old v (getD writable a 0) (255 - getD writable a 0) (getD kept a 0) i
+    over-inside old v (getD writable a 0) _ (getD kept a 0) i
     (same-below (λ (k : ℕ). bitAnd (getD writable k 0) (getD kept k 0)) (λ (k : ℕ). getD writable k 0) 32 refl a h)
 
 -- at 04h what follows is inside the masks too
 day-inside : (had : Bool) (regs : List ℕ) → AllInside regs → AllInside (dayWritten had regs)
 day-inside had regs i =
     pick-case AllInside (vbat regs)
-    (pick-case AllInside had i
-    (set-inside regs dayAt (bitAnd (getD regs dayAt 0) 0xef)
-    (and-assoc (getD regs dayAt 0) 0xef 0x1f ∙ ap (bitAnd (getD regs dayAt 0)) (and-comm 0xef 0x1f) ∙ sym (and-assoc (getD regs dayAt 0) 0x1f 0xef)
-    ∙ ap (λ (n : ℕ). bitAnd n 0xef) (i dayAt (omega arith))) i))
+    (pick-case AllInside had i (without-vbat-inside regs i))
     (unstamped-inside regs i)
 
 -- and leaves the registers below 18h but 04h alone

@@ -299,7 +299,7 @@ module _ (part mask : ℕ) (xs : List Input) (w : World) (z : Shaped part w) (e 
             let at : (k : ℕ) → k < 0x1c → getD (powerBack part mask xs w .after .device .regs) k 0 ≡ getD (v .device .regs) k 0 =
             λ k h. ap (λ (x : Device). getD (x .regs) k 0) up-done ∙ u .others k h in (
               shows-kept 0x18 (afterCut mask (w .device) .regs) (powerBack part mask xs w .after .device .regs) (w .device .regs)
-              (λ k h l. at k (omega arith) ∙ same-up k h) (s .down),
+                  (λ k h l. at k (omega arith) ∙ same-up k h) (s .down),
               subst (λ (x : Device). Shows 0x1c (x .regs) (v .device .regs)) (sym up-done) (u .up),
               ap (λ (x : ℕ). bit x 4) (at dayAt (omega arith)) ∙ vbat-up ∙ s .vbat,
             );
@@ -416,9 +416,10 @@ time-stamps =
       left =
           λ part arg w z e s b.
           let r = in-range part (w .device) (table.accepted part Byte arg (w .device) _ _ (sym (answered-by-table part Byte arg w) ∙ e) .setup .ranged) in
-          rw (byte-done part arg w e)
-          (byte-stamps (bootsOf part) (topOf part) arg (w .device) (z .sized .regs) (r .clock .inside) (λ q. true-false b (q .1)),
-          byte-leaves-vbat (bootsOf part) (topOf part) arg (w .device) (z .sized .regs) s b);
+          rw (byte-done part arg w e) (
+            byte-stamps (bootsOf part) (topOf part) arg (w .device) (z .sized .regs) (r .clock .inside) (λ q. true-false b (q .1)),
+            byte-leaves-vbat (bootsOf part) (topOf part) arg (w .device) (z .sized .regs) s b,
+          );
       only =
           λ part act arg w k z h.
           changed-by (λ (x : World). getD (x .device .regs) k 0) (StampAct act arg (w .device) k) part act arg w
