@@ -1,10 +1,12 @@
--- The three demands, proved by citing: the table's theorem and those of a tape's lines, the functions' proofs, demand 3 and the law of every feeding.
+-- The three demands and the requests, proved by citing: the table's theorem and those of a tape's lines, the functions' proofs, demand 3, the law of every
+-- feeding, the promise of the time-stamps.
 -- Assumes nothing.
 use mathlib.Core.Path.{sym, _∙_}
 use borrow.Author.Tests.{ne-eqb}
 use Rattle.refusals.proofs.TableLaws.{exactly}
 use Rattle.acts.proofs.OutcomeLaws.{answered-by-table, refused-same}
 use Rattle.run.proofs.DemandThree.{demand-three}
+use Rattle.run.proofs.StampLaws.{time-stamps}
 use Rattle.run.proofs.WrongLaws.{enableless-fails, deaf-fails, empty-fails, maskless-fails, lockless-fails}
 use Rattle.lines.proofs.LineLaws.{asks-exactly}
 use Rattle.answers.proofs.AnswerLaws.{seven-exactly, refused-setup}
@@ -55,4 +57,4 @@ accountable =
     }
 
 pub demands : Demands
-demands = record { total = total; exact = exact; accountable = accountable }
+demands = record { total = total; exact = exact; accountable = accountable; timeStamps = time-stamps }

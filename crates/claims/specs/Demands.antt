@@ -1,4 +1,4 @@
--- The three demands on the copy, as one statement. Each part is a claim over definitions that stand elsewhere, or a function's contract as the checker
+-- The three demands on the copy, and what the change requests promise, as one statement. Each part is a claim over definitions that stand elsewhere, or a function's contract as the checker
 -- states it; nothing of the chip is defined here. 'Proved' means: equal to the outline's rules, as docs/RULES.md tells them; not: equal to silicon.
 -- Assumes nothing.
 use Prim.Native.Nat.{ℕ}
@@ -12,6 +12,7 @@ use Rattle.record.specs.World.{World}
 use Rattle.refusals.specs.Rows.{TableGives}
 use Rattle.acts.specs.Act.{performed, refused}
 use Rattle.run.specs.Claim.{ourChip, DemandThree}
+use Rattle.run.specs.Stamps.{TimeStamps}
 use Rattle.run.specs.Wrong.{enablelessChip, deafChip, emptyChip, masklessChip, locklessChip}
 use Rattle.lines.specs.declared.Name.{Name}
 use Rattle.lines.specs.Request.{requestOf, asked, unknownName, Spelled}
@@ -70,8 +71,10 @@ pub record Accountable : Type 0 where
   pub maskless : ¬ DemandThree masklessChip
   pub lockless : ¬ DemandThree locklessChip
 
--- R12. The three together.
+-- R12. The three together, and of each change request what it promises of every act and every run.
 pub record Demands : Type 2 where
   pub total : Total
   pub exact : Exact
   pub accountable : Accountable
+  -- request 1: the time-stamps of a power failure
+  pub timeStamps : TimeStamps
