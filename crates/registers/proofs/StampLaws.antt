@@ -11,7 +11,7 @@ use lib.Bits.{bitAnd, and-zero-r, or-zero-r}
 use lib.ListN.{length, getD, set, length-set}
 use lib.Seq.{getD-set-same, getD-set-other}
 use Rattle.base.specs.Words.{pick, bit, every}
-use Rattle.base.proofs.Tests.{pick-case, pick-when, yes, no}
+use Rattle.base.proofs.Tests.{pick-case, pick-when, true-false, no}
 use Rattle.base.proofs.Every.{same-from}
 use Rattle.base.proofs.BitLaws.{and-bit, or-bit, below-mask}
 use Rattle.base.proofs.StoreLaws.{set-case}
@@ -58,6 +58,12 @@ without : (regs : List ℕ) → dayAt < length regs → vbat (withoutVbat regs) 
 without regs l =
     ap (λ (n : ℕ). bit n 4) (getD-set-same regs dayAt _ 0 l) ∙ and-bit (getD regs dayAt 0) 0xef 4 ∙ and-false (bit (getD regs dayAt 0) 4)
 
+-- VBAT written 1 is what it was
+day-vbat : (had : Bool) (regs : List ℕ) → dayAt < length regs → vbat regs ≡ true → vbat (dayWritten had regs) ≡ had
+day-vbat had regs l o =
+    let P : List ℕ → Type 0 = λ x. vbat x ≡ had in
+    pick-when P (vbat regs) (λ t. pick-when P had (λ p. o ∙ sym p) (λ p. without regs l ∙ sym p)) (λ f. absurd (true-false o f))
+
 -- what WRITE leaves at 04h
 write-day :
     (boots : Bool) (d : Device) (a : ClockAddress) (v : ℕ) → a .0 ≡ dayAt
@@ -76,7 +82,7 @@ module _ (boots : Bool) (d : Device) (a : ClockAddress) (v : ℕ) (l : length (d
   write-clears e z =
       let regs : List ℕ = dayStored (d .regs) v in
       let f : vbat regs ≡ false = stored-vbat (d .regs) v there ∙ z in
-      let g : writeClock boots d a v .regs ≡ unstamped regs = write-day boots d a v e ∙ sym (no (pick (vbat (d .regs)) regs (withoutVbat regs)) (unstamped regs) f) in (
+      let g : writeClock boots d a v .regs ≡ unstamped regs = write-day boots d a v e ∙ sym (no _ (unstamped regs) f) in (
         ap vbat g ∙ ap (λ (n : ℕ). bit n 4) (unstamped-other regs dayAt (omega arith)) ∙ f,
         λ k m h. ap (λ (x : List ℕ). getD x k 0) g ∙ unstamped-zero regs k m h,
       )
@@ -84,14 +90,9 @@ module _ (boots : Bool) (d : Device) (a : ClockAddress) (v : ℕ) (l : length (d
   -- a 1 for it
   pub write-leaves-vbat : a .0 ≡ dayAt → bit v 4 ≡ true → vbat (writeClock boots d a v .regs) ≡ vbat (d .regs)
   write-leaves-vbat e o =
-      let regs : List ℕ = dayStored (d .regs) v in
-      let had : Bool = vbat (d .regs) in
-      let t : vbat regs ≡ true = stored-vbat (d .regs) v there ∙ o in
-      let g : writeClock boots d a v .regs ≡ pick had regs (withoutVbat regs) =
-      write-day boots d a v e ∙ sym (yes (pick had regs (withoutVbat regs)) (unstamped regs) t) in
-      ap vbat g
-      ∙ pick-when (λ (x : List ℕ). vbat x ≡ had) had (λ p. t ∙ sym p)
-      (λ p. without regs (omega (arith, there, length-set (d .regs) dayAt (underMask 0x1f (getD (d .regs) dayAt 0) v))) ∙ sym p)
+      ap vbat (write-day boots d a v e)
+      ∙ day-vbat (vbat (d .regs)) (dayStored (d .regs) v)
+      (omega (arith, there, length-set (d .regs) dayAt (underMask 0x1f (getD (d .regs) dayAt 0) v))) (stored-vbat (d .regs) v there ∙ o)
 
   -- another register, SRAM or what lies above it
   pub write-other-vbat : a .0 ≢ dayAt → vbat (writeClock boots d a v .regs) ≡ vbat (d .regs)
