@@ -77,7 +77,7 @@ module _ (P : Load → Type 0) (l : Load) (v : ℕ) (p : P l) (q : P (emptied l 
   load-case (Second x) = p
   load-case (Over x) = p
 
--- What holds of the device and of every WRITE to it, where the frame is one, holds after a byte's store.
+-- What holds of the device, and of it after the byte as a WRITE's where the frame is a WRITE, holds after a byte's store.
 module _ (P : Device → Type 0) (boots : Bool) (d : Device) (v : ℕ) (p : P d) where
   place-when : (x : Place) → ((a : ClockAddress) → Writing x ≡ Writing (ClockAt a) → P (writeClock boots d a v)) → P (writtenPlace boots d v x)
   place-when (EepromAt a) q = p

@@ -2,7 +2,7 @@
 -- Assumes nothing.
 use Prim.Native.Nat.{ℕ, _+_, _%_, _<_, _≤_}
 use native.Mathlib.Omega.{arith}
-use mathlib.Core.Path.{_≡_, refl, sym, subst, _∙_}
+use mathlib.Core.Path.{_≡_, refl, sym, _∙_}
 use mathlib.Core.Bool.{Bool, true, false, true≢false, false≢true}
 use mathlib.Core.Logic.{inl, _≢_}
 use mathlib.Core.List.{List}
@@ -27,7 +27,7 @@ use Rattle.record.specs.declared.Target.the-variants.{Eeprom, Id, Status}
 use Rattle.record.specs.Address.{pageOf}
 use Rattle.record.specs.Fresh.{fresh}
 use Rattle.record.specs.Part.{bootsOf}
-use Rattle.record.specs.Registers.{vbaten, vbat, secondsAt, dayAt, watchdogAt, powerDownAt, powerUpAt, periodOf}
+use Rattle.record.specs.Registers.{vbaten, secondsAt, dayAt, watchdogAt, powerDownAt, powerUpAt}
 use Rattle.record.specs.Stamps.{stamped}
 use Rattle.record.specs.Setters.{withRegs, withWatchdog, withDelay, withPulse}
 use Rattle.record.specs.Stored.{storedSet, storedCount, storePage}
@@ -37,8 +37,8 @@ use Rattle.record.proofs.StampLaws.{stamped-other, stamped-length}
 use Rattle.record.proofs.WorldLaws.{sized-by, replicate-bytes, eeprom-case, id-case}
 use Rattle.refusals.specs.InRange.{InRange}
 use Rattle.refusals.proofs.RangeLaws.{fresh-facts}
-use Rattle.refusals.proofs.KeepLaws.{ClockOf, AllInside, Beside, beside, watchdog-in, delay-in, pulse-in, regs-in, set-inside, stamped-inside, with-vbat-inside, in-range-beside}
-use Rattle.power.specs.Power.{watchdogCut, failureStamped, forgotten, stoppedBy, afterCut, cutCount, cutWorld, returnStamped, afterUp}
+use Rattle.refusals.proofs.KeepLaws.{ClockOf, AllInside, Beside, beside, watchdog-in, delay-in, pulse-in, regs-in, regs-beside-in, set-inside, stamped-inside, with-vbat-inside, in-range-beside}
+use Rattle.power.specs.Power.{watchdogCut, takesStamp, failureStamped, forgotten, stoppedBy, afterCut, cutCount, cutWorld, returnStamped, afterUp}
 
 -- The ones of the loaded offsets under a mask are the offsets that are stored.
 under-mask : (offsets mask : ℕ) → mask < 256 → bitAnd offsets mask < 256
@@ -95,24 +95,23 @@ watchdog-cut-in boots d r =
 failure-inside : (regs : List ℕ) → AllInside regs → AllInside (failureStamped regs)
 failure-inside regs i =
     let l : List ℕ = stamped powerDownAt regs in
-    pick-case AllInside (vbat regs) i (with-vbat-inside l (stamped-inside powerDownAt regs (omega arith) (omega arith) i))
+    pick-case AllInside (takesStamp regs) (with-vbat-inside l (stamped-inside powerDownAt regs (omega arith) (omega arith) i)) i
 
-pub failure-other : (regs : List ℕ) (k : ℕ) → k < powerDownAt → k ≢ dayAt → getD (failureStamped regs) k 0 ≡ getD regs k 0
+failure-other : (regs : List ℕ) (k : ℕ) → k < powerDownAt → k ≢ dayAt → getD (failureStamped regs) k 0 ≡ getD regs k 0
 failure-other regs k h n =
-    pick-case (λ (l : List ℕ). getD l k 0 ≡ getD regs k 0) (vbat regs) refl
-    (getD-set-other (stamped powerDownAt regs) dayAt k _ 0 n ∙ stamped-other powerDownAt regs k (inl h))
+    pick-case (λ (l : List ℕ). getD l k 0 ≡ getD regs k 0) (takesStamp regs)
+    (getD-set-other (stamped powerDownAt regs) dayAt k _ 0 n ∙ stamped-other powerDownAt regs k (inl h)) refl
 
 failure-length : (regs : List ℕ) → length (failureStamped regs) ≡ length regs
 failure-length regs =
-    pick-case (λ (l : List ℕ). length l ≡ length regs) (vbat regs) refl
-    (length-set (stamped powerDownAt regs) dayAt _ ∙ stamped-length powerDownAt regs)
+    pick-case (λ (l : List ℕ). length l ≡ length regs) (takesStamp regs)
+    (length-set (stamped powerDownAt regs) dayAt _ ∙ stamped-length powerDownAt regs) refl
 
 failure-in : (boots : Bool) (d : Device) → ClockOf boots d → ClockOf boots (withRegs d (failureStamped (d .regs)))
 failure-in boots d r =
     let regs : List ℕ = d .regs in
-    regs-in boots d r (failureStamped regs) (failure-inside regs (r .inside))
-    (subst (λ (v : ℕ). d .counters .watchdog < periodOf v) (sym (failure-other regs watchdogAt (omega arith) (λ e. omega arith))) (r .watchdog))
-    (subst (λ (v : ℕ). boots ≡ false → bit v 7 ≡ false → d .counters .startup ≡ 0) (sym (failure-other regs secondsAt (omega arith) (λ e. omega arith))) (r .stopped))
+    regs-beside-in boots d r (failureStamped regs) (failure-inside regs (r .inside))
+    (failure-other regs watchdogAt (omega arith) (λ e. omega arith)) (failure-other regs secondsAt (omega arith) (λ e. omega arith))
 
 pub cut-in-range : (part mask : ℕ) (d : Device) → InRange part d → InRange part (afterCut mask d)
 unfolding fresh
@@ -179,16 +178,15 @@ module _ (mask : ℕ) (w : World) (runs : eqb (w .device .cycle .left) 0 ≡ fal
   cut-counts-id a t o = rw (runs, t) (sym (store-changes (w .id) (pageOf (a .0)) (storedSet (w .device .load) mask) (w .device .load .bytes) 8 (o .0) (o .1)))
 
 -- power up leaves a record in range
-pub return-other : (mark : Bool) (regs : List ℕ) (k : ℕ) → k < powerUpAt → getD (returnStamped mark regs) k 0 ≡ getD regs k 0
+return-other : (mark : Bool) (regs : List ℕ) (k : ℕ) → k < powerUpAt → getD (returnStamped mark regs) k 0 ≡ getD regs k 0
 return-other mark regs k h = pick-case (λ (l : List ℕ). getD l k 0 ≡ getD regs k 0) mark (stamped-other powerUpAt regs k (inl h)) refl
 
 return-in : (boots mark : Bool) (d : Device) → ClockOf boots d → ClockOf boots (withRegs d (returnStamped mark (d .regs)))
 return-in boots mark d r =
     let regs : List ℕ = d .regs in
-    regs-in boots d r (returnStamped mark regs)
+    regs-beside-in boots d r (returnStamped mark regs)
     (pick-case AllInside mark (stamped-inside powerUpAt regs (omega arith) (omega arith) (r .inside)) (r .inside))
-    (subst (λ (v : ℕ). d .counters .watchdog < periodOf v) (sym (return-other mark regs watchdogAt (omega arith))) (r .watchdog))
-    (subst (λ (v : ℕ). boots ≡ false → bit v 7 ≡ false → d .counters .startup ≡ 0) (sym (return-other mark regs secondsAt (omega arith))) (r .stopped))
+    (return-other mark regs watchdogAt (omega arith)) (return-other mark regs secondsAt (omega arith))
 
 pub up-in-range : (part : ℕ) (d : Device) → InRange part d → InRange part (afterUp d)
 unfolding afterUp

@@ -15,7 +15,7 @@ use Rattle.base.proofs.BitLaws.{or-bit}
 use Rattle.record.specs.declared.Device.{Device}
 use Rattle.record.specs.Fresh.{freshRegs}
 use Rattle.record.specs.Registers.{vbaten, vbat, dayAt, watchdogAt, powerDownAt, powerUpAt}
-use Rattle.record.specs.Stamps.{stamped, withVbat, Shows, SameStamps}
+use Rattle.record.specs.Stamps.{stamped, withVbat, NoStamps, SameStamps, Shows}
 use Rattle.record.proofs.StampLaws.{stamped-other, stamped-length, stamped-shows, shows-kept}
 use Rattle.power.specs.Power.{failureStamped, takesStamp, afterCut, afterUp}
 use Rattle.power.proofs.PowerLaws.{cut-case, cut-beside}
@@ -34,15 +34,15 @@ cut-mark mask d = cut-beside mask d .mark
 with-vbat : (regs : List ℕ) → dayAt < length regs → vbat (withVbat regs) ≡ true
 with-vbat regs l = ap (λ (n : ℕ). bit n 4) (getD-set-same regs dayAt _ 0 l) ∙ or-bit (getD regs dayAt 0) 0x10 4 ∙ or-true (bit (getD regs dayAt 0) 4)
 
-failure-vbat : (regs : List ℕ) → vbat regs ≡ false → dayAt < length regs → vbat (failureStamped regs) ≡ true
-failure-vbat regs f l =
-    pick-when (λ (x : List ℕ). vbat x ≡ true) (vbat regs) (λ t. absurd (true-false t f))
-    (λ t. with-vbat (stamped powerDownAt regs) (omega (arith, l, stamped-length powerDownAt regs)))
+failure-vbat : (regs : List ℕ) → takesStamp regs ≡ true → dayAt < length regs → vbat (failureStamped regs) ≡ true
+failure-vbat regs t l =
+    pick-when (λ (x : List ℕ). vbat x ≡ true) (takesStamp regs)
+    (λ u. with-vbat (stamped powerDownAt regs) (omega (arith, l, stamped-length powerDownAt regs))) (λ f. absurd (true-false t f))
 
-failure-stamp : (regs : List ℕ) (k : ℕ) → vbat regs ≡ false → powerDownAt ≤ k → getD (failureStamped regs) k 0 ≡ getD (stamped powerDownAt regs) k 0
-failure-stamp regs k f h =
-    pick-when (λ (x : List ℕ). getD x k 0 ≡ getD (stamped powerDownAt regs) k 0) (vbat regs) (λ t. absurd (true-false t f))
-    (λ t. getD-set-other (stamped powerDownAt regs) dayAt k _ 0 (λ z. omega arith))
+failure-stamp : (regs : List ℕ) (k : ℕ) → takesStamp regs ≡ true → powerDownAt ≤ k → getD (failureStamped regs) k 0 ≡ getD (stamped powerDownAt regs) k 0
+failure-stamp regs k t h =
+    pick-when (λ (x : List ℕ). getD x k 0 ≡ getD (stamped powerDownAt regs) k 0) (takesStamp regs)
+    (λ u. getD-set-other (stamped powerDownAt regs) dayAt k _ 0 (λ z. omega arith)) (λ f. absurd (true-false t f))
 
 -- P13. A cut that finds VBATEN set and VBAT clear.
 pub record Stamped (d e : Device) : Type 0 where
@@ -55,13 +55,14 @@ pub cut-stamps : (mask : ℕ) (d : Device) → vbaten (d .regs) ≡ true → vba
 cut-stamps mask d t f l =
     let regs : List ℕ = d .regs in
     let s : List ℕ = stamped powerDownAt regs in
+    let u : takesStamp regs ≡ true = simp (t, f) in
     let at : (k : ℕ) → powerDownAt ≤ k → getD (afterCut mask d .regs) k 0 ≡ getD s k 0 =
-    λ k h. cut-register mask d k t (λ z. omega arith) ∙ failure-stamp regs k f h in
+    λ k h. cut-register mask d k t (λ z. omega arith) ∙ failure-stamp regs k u h in
     record {
       down = shows-kept powerDownAt s (afterCut mask d .regs) regs (λ k h g. at k h) (stamped-shows powerDownAt regs (omega (arith, l)));
       up = λ k h. at k (omega arith) ∙ stamped-other powerDownAt regs k (inr h);
-      vbat = ap (λ (n : ℕ). bit n 4) (cut-register mask d dayAt t (λ z. omega arith)) ∙ failure-vbat regs f (omega (arith, l));
-      mark = cut-mark mask d ∙ simp (t, f);
+      vbat = ap (λ (n : ℕ). bit n 4) (cut-register mask d dayAt t (λ z. omega arith)) ∙ failure-vbat regs u (omega (arith, l));
+      mark = cut-mark mask d ∙ u;
     }
 
 -- P14. A cut that finds VBATEN and VBAT set leaves both time-stamps, and no mark.
@@ -72,22 +73,23 @@ pub record Held (d e : Device) : Type 0 where
 
 pub cut-held : (mask : ℕ) (d : Device) → vbaten (d .regs) ≡ true → vbat (d .regs) ≡ true → Held d (afterCut mask d)
 cut-held mask d t v =
-    let e : failureStamped (d .regs) ≡ d .regs = sym (yes (d .regs) _ v) in
+    let u : takesStamp (d .regs) ≡ false = simp (t, v) in
+    let e : failureStamped (d .regs) ≡ d .regs = sym (no _ (d .regs) u) in
     let at : (k : ℕ) → k ≢ watchdogAt → getD (afterCut mask d .regs) k 0 ≡ getD (d .regs) k 0 =
     λ k n. cut-register mask d k t n ∙ ap (λ (x : List ℕ). getD x k 0) e in
     record {
       stamps = λ k h. at k (λ z. omega arith);
       vbat = ap (λ (n : ℕ). bit n 4) (at dayAt (λ z. omega arith)) ∙ v;
-      mark = cut-mark mask d ∙ simp (t, v);
+      mark = cut-mark mask d ∙ u;
     }
 
 -- P14. One that finds VBATEN clear leaves both time-stamps 0, VBAT clear and no mark.
 pub record Lost (e : Device) : Type 0 where
-  pub stamps : (k : ℕ) → powerDownAt ≤ k → k < 32 → getD (e .regs) k 0 ≡ 0
+  pub stamps : NoStamps (e .regs)
   pub vbat : vbat (e .regs) ≡ false
   pub mark : e .mark ≡ false
 
-pub fresh-stamp : (k : ℕ) → powerDownAt ≤ k → k < 32 → getD freshRegs k 0 ≡ 0
+pub fresh-stamp : NoStamps freshRegs
 unfolding every
 fresh-stamp k l h = same-from (λ (n : ℕ). getD freshRegs n 0) 0 powerDownAt 8 refl k l (omega arith)
 
@@ -95,7 +97,7 @@ pub cut-lost : (mask : ℕ) (d : Device) → vbaten (d .regs) ≡ false → Lost
 cut-lost mask d f =
     let regs : afterCut mask d .regs ≡ freshRegs = cut-case (λ (e : Device). e .regs ≡ freshRegs) mask d (λ t. absurd (true-false t f)) (λ t. refl) in
     record {
-      stamps = λ k l h. ap (λ (x : List ℕ). getD x k 0) regs ∙ fresh-stamp k l h;
+      stamps = subst NoStamps (sym regs) fresh-stamp;
       vbat = ap vbat regs;
       mark = cut-mark mask d ∙ simp f;
     }

@@ -26,9 +26,9 @@ watchdogCut d = withPulse (withDelay (withWatchdog (withRegs d (set (d .regs) wa
 abbrev pub takesStamp : List ℕ → Bool
 takesStamp regs = vbaten regs && not (vbat regs)
 
--- P13, P14. On the battery: the time goes into the power-down time-stamp and VBAT is set, unless it was.
+-- P13, P14. Then the time goes into the power-down time-stamp, and VBAT is set; else no register changes.
 abbrev pub failureStamped : List ℕ → List ℕ
-failureStamped regs = pick (vbat regs) regs (withVbat (stamped powerDownAt regs))
+failureStamped regs = pick (takesStamp regs) (withVbat (stamped powerDownAt regs)) regs
 
 -- P10. Without the battery registers, SRAM and all counts are as fresh.
 abbrev pub forgotten : Device → Device
@@ -43,7 +43,7 @@ abbrev pub protectionCut : ℕ → Device → Protection
 protectionCut mask d = pick (eqb (d .cycle .left) 0) (d .guard .protection) (protectionAfter mask (d .guard .protection) (d .cycle .target))
 
 -- P5, P6, P8, G6. The cycle is gone, the frame dropped, WEL cleared, the lock closed, the chip not selected.
--- P13, P14. The mark tells the up whether this cut took its time-stamp.
+-- P13, P14. The mark tells the up whether the cut took its time-stamp.
 abbrev pub stoppedBy : ℕ → Device → Device
 stoppedBy mask d =
     withMark (withPower (withStage (withLeft (withLock (withWel (withProtection d (protectionCut mask d)) false) Closed) 0) Idle) false)

@@ -29,16 +29,17 @@ fn takes_stamp(regs: [u8; 32]) -> bool
     enabled & !held
 }
 
-// On the battery: the time of the failure, and VBAT.
+// Then the time of the failure, and VBAT.
 fn failure_stamped(regs: [u8; 32]) -> [u8; 32]
     ensures { λ r. ⌜ r ≡ failureStamped regs ⌝ }
 {
-    if registers::failure_held(regs) {
-        return regs;
+    let takes = takes_stamp(regs);
+    if takes {
+        let mut next = stamps::stamped_at(POWER_DOWN, regs);
+        next[DAY] = next[DAY] | VBAT;
+        return next;
     }
-    let mut next = stamps::stamped_at(POWER_DOWN, regs);
-    next[DAY] = next[DAY] | VBAT;
-    next
+    regs
 }
 
 // On the battery: the watchdog is stopped.

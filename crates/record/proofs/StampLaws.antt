@@ -13,7 +13,7 @@ use lib.Seq.{getD-set-same, getD-set-other}
 use Rattle.base.proofs.StoreLaws.{set-each}
 use Rattle.base.proofs.Tests.{by-cases}
 use Rattle.record.specs.Registers.{minutesAt, dateAt, powerDownAt, powerUpAt}
-use Rattle.record.specs.Stamps.{stampAt, stampHours, stampMonth, stamped, unstamped, Shows}
+use Rattle.record.specs.Stamps.{stampAt, stampHours, stampMonth, stamped, unstamped, NoStamps, Shows}
 
 -- What holds of each register and of each new one at its place, holds of each after a time-stamp is put there.
 module _ (P : ℕ → ℕ → Type 0) (a : ℕ) where
@@ -82,7 +82,7 @@ at-zero a regs k l h =
     none : k ≢ a + 3 → k ≢ a + 2 → k ≢ a + 1 → k ≢ a → ⊥
     none n3 n2 n1 n0 = omega arith
 
-pub unstamped-zero : (regs : List ℕ) (k : ℕ) → powerDownAt ≤ k → k < 32 → getD (unstamped regs) k 0 ≡ 0
+pub unstamped-zero : (regs : List ℕ) → NoStamps (unstamped regs)
 unfolding unstamped
 unstamped-zero regs k l h =
     by-cases (ltb k powerUpAt)

@@ -1,11 +1,14 @@
 -- Time-stamps of a power failure, as registers: how the time is copied into one, how both are cleared, how VBAT is set and cleared, and what a time-stamp
 -- shows. Not when.
 -- Assumes nothing.
-use Prim.Native.Nat.{ℕ, _+_, _*_, _/_, _%_, _≤_}
+use Prim.Native.Nat.{ℕ, _+_, _*_, _/_, _%_, _<_, _≤_}
 use mathlib.Core.Path.{_≡_}
 use mathlib.Core.List.{List}
 use lib.Bits.{bitAnd, bitOr}
 use lib.ListN.{getD, set}
+use Rattle.record.specs.declared.Place.the-variants.{ClockAt}
+use Rattle.record.specs.declared.Stage.{Stage}
+use Rattle.record.specs.declared.Stage.the-variants.{Writing}
 use Rattle.record.specs.Registers.{minutesAt, hoursAt, dayAt, dateAt, monthAt, powerDownAt, powerUpAt}
 
 -- C5. A time-stamp is four registers from its first: minutes, hours, date, and month with the day of the week.
@@ -33,6 +36,14 @@ withVbat regs = set regs dayAt (bitOr (getD regs dayAt 0) 0x10)
 
 abbrev pub withoutVbat : List ℕ → List ℕ
 withoutVbat regs = set regs dayAt (bitAnd (getD regs dayAt 0) 0xef)
+
+-- P16. a WRITE whose next byte goes to 04h
+abbrev pub toDay : Stage
+toDay = Writing (ClockAt (record { 0 = dayAt }))
+
+-- P14, P16. both time-stamps are 0
+abbrev pub NoStamps : List ℕ → Type 0
+NoStamps regs = (k : ℕ) → powerDownAt ≤ k → k < 32 → getD regs k 0 ≡ 0
 
 -- P17. the registers of both time-stamps are the same
 abbrev pub SameStamps : List ℕ → List ℕ → Type 0

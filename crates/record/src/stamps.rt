@@ -49,7 +49,7 @@ pub fn stamped_at(at: ClockAddress, regs: [u8; 32]) -> [u8; 32]
 }
 
 // Both time-stamps are cleared.
-pub fn cleared(regs: [u8; 32]) -> [u8; 32]
+pub fn unstamped(regs: [u8; 32]) -> [u8; 32]
     ensures { λ r. ⌜ r ≡ unstamped regs ⌝ }
 {
     let none = Stamp {

@@ -8,7 +8,7 @@ use mathlib.Core.Bool.{Bool, false}
 use mathlib.Core.List.{List}
 use lib.Bits.{bitAnd, bitOr, and-le-r}
 use lib.ListN.{getD, set}
-use Rattle.base.specs.Words.{every}
+use Rattle.base.specs.Words.{bit, every}
 use Rattle.base.proofs.Every.{same-from, bound-below}
 use Rattle.base.proofs.BitLaws.{below-mask, inside-and, and-or}
 use Rattle.base.proofs.StoreLaws.{set-case}
@@ -16,7 +16,7 @@ use Rattle.record.specs.declared.Device.{Device}
 use Rattle.record.specs.declared.Counters.{Counters}
 use Rattle.record.specs.declared.Guard.{Guard}
 use Rattle.record.specs.Part.{bootsOf}
-use Rattle.record.specs.Registers.{st, minutesAt, dayAt, dateAt, watchdogAt, powerDownAt, kept, periodOf, startupTicks, dividerTicks, longPulse, delayTicks}
+use Rattle.record.specs.Registers.{st, secondsAt, minutesAt, dayAt, dateAt, watchdogAt, powerDownAt, kept, periodOf, startupTicks, dividerTicks, longPulse, delayTicks}
 use Rattle.record.specs.Setters.{withRegs, withSram, withCounters, withDivider, withStartup, withWatchdog, withDelay, withPulse, withGuard, withLeft}
 use Rattle.record.specs.Stamps.{stamped, unstamped, withVbat, withoutVbat}
 use Rattle.record.proofs.StampLaws.{stamped-each, unstamped-each}
@@ -62,6 +62,14 @@ module _ (boots : Bool) (d : Device) (r : ClockOf boots d) where
   pub regs-in : (regs : List ℕ) → AllInside regs → Paced (d .counters) regs → Halted boots (d .counters) regs → ClockOf boots (withRegs d regs)
   regs-in regs i p h =
       record { divider = r .divider; startup = r .startup; pulse = r .pulse; delay = r .delay; watchdog = p; stopped = h; inside = i }
+
+  -- registers that leave 01h and 0Ah, which the counts read
+  pub regs-beside-in :
+      (regs : List ℕ) → AllInside regs → getD regs watchdogAt 0 ≡ getD (d .regs) watchdogAt 0 → getD regs secondsAt 0 ≡ getD (d .regs) secondsAt 0
+      → ClockOf boots (withRegs d regs)
+  regs-beside-in regs i p h =
+      regs-in regs i (subst (λ (v : ℕ). d .counters .watchdog < periodOf v) (sym p) (r .watchdog))
+      (subst (λ (v : ℕ). boots ≡ false → bit v 7 ≡ false → d .counters .startup ≡ 0) (sym h) (r .stopped))
 
 -- a register whose new value is inside its mask
 pub set-inside : (regs : List ℕ) (a v : ℕ) → Inside a v → AllInside regs → AllInside (set regs a v)

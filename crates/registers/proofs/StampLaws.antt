@@ -1,29 +1,40 @@
--- What WRITE does to the time-stamps and to VBAT: a 0 for VBAT clears all three, and nothing else changes a time-stamp; a 1 leaves VBAT what it
--- was, and no other register has to do with it.
+-- READ answers a time-stamp as it is stored. What WRITE does to the time-stamps and to VBAT: a 0 for VBAT clears all three, and nothing else changes a
+-- time-stamp; a 1 leaves VBAT what it was, and no other register has to do with it.
 -- Assumes nothing.
-use mathlib.Core.Path.{_≡_, refl, sym, ap, _∙_}
+use mathlib.Core.Path.{_≡_, refl, sym, ap, subst, _∙_}
 use mathlib.Core.Bool.{Bool, true, false, _&&_, _||_, and-false}
 use mathlib.Core.List.{List}
 use mathlib.Core.Logic.{_≢_}
 use Prim.Native.Nat.{ℕ, _<_, _≤_}
 use native.Mathlib.Omega.{arith}
+use borrow.Author.Tests.{lt-ltb, ne-eqb}
 use lib.Bits.{bitAnd, and-zero-r, or-zero-r}
 use lib.ListN.{length, getD, set, length-set}
 use lib.Seq.{getD-set-same, getD-set-other}
-use Rattle.base.specs.Words.{pick, bit, every}
+use Rattle.base.specs.Words.{bit, every}
 use Rattle.base.proofs.Tests.{pick-case, pick-when, true-false, no}
 use Rattle.base.proofs.Every.{same-from}
 use Rattle.base.proofs.BitLaws.{and-bit, or-bit, below-mask}
 use Rattle.base.proofs.StoreLaws.{set-case}
 use Rattle.record.specs.declared.Device.{Device}
 use Rattle.record.specs.declared.ClockAddress.{ClockAddress}
-use Rattle.record.specs.Registers.{vbat, dayAt, powerDownAt, writable}
+use Rattle.record.specs.Registers.{vbat, dayAt, monthAt, alarm0HoursAt, alarm1HoursAt, powerDownAt, writable}
 use Rattle.record.specs.Setters.{withRegs}
-use Rattle.record.specs.Stamps.{unstamped, withoutVbat, SameStamps}
+use Rattle.record.specs.Stamps.{unstamped, withoutVbat, NoStamps, SameStamps}
 use Rattle.record.proofs.StampLaws.{unstamped-other, unstamped-zero}
 use Rattle.refusals.proofs.KeepLaws.{AllInside, inside-byte}
+use Rattle.registers.specs.Read.{readClock}
 use Rattle.registers.specs.Write.{dayWritten, afterWrite, underMask, writeClock}
 use Rattle.registers.proofs.WriteLaws.{write-case, after-case}
+
+-- Of a time-stamp no bit is made.
+pub read-stamp : (d : Device) (a : ClockAddress) → powerDownAt ≤ a .0 → a .0 < 32 → readClock d a ≡ getD (d .regs) (a .0) 0
+unfolding readClock
+read-stamp d a l h =
+    simp
+    (lt-ltb (a .0) 0x20 h, ne-eqb (a .0) dayAt (λ e. omega arith), ne-eqb (a .0) monthAt (λ e. omega arith),
+    ne-eqb (a .0) alarm0HoursAt (λ e. omega arith), ne-eqb (a .0) alarm1HoursAt (λ e. omega arith))
+    (or-zero-r (getD (d .regs) (a .0) 0))
 
 -- Of a time-stamp nothing is written.
 stamp-writable : (k : ℕ) → powerDownAt ≤ k → k < 32 → getD writable k 0 ≡ 0
@@ -59,10 +70,10 @@ without regs l =
     ap (λ (n : ℕ). bit n 4) (getD-set-same regs dayAt _ 0 l) ∙ and-bit (getD regs dayAt 0) 0xef 4 ∙ and-false (bit (getD regs dayAt 0) 4)
 
 -- VBAT written 1 is what it was
-day-vbat : (had : Bool) (regs : List ℕ) → dayAt < length regs → vbat regs ≡ true → vbat (dayWritten had regs) ≡ had
-day-vbat had regs l o =
-    let P : List ℕ → Type 0 = λ x. vbat x ≡ had in
-    pick-when P (vbat regs) (λ t. pick-when P had (λ p. o ∙ sym p) (λ p. without regs l ∙ sym p)) (λ f. absurd (true-false o f))
+day-vbat : (before : Bool) (regs : List ℕ) → dayAt < length regs → vbat regs ≡ true → vbat (dayWritten before regs) ≡ before
+day-vbat before regs l o =
+    let P : List ℕ → Type 0 = λ x. vbat x ≡ before in
+    pick-when P (vbat regs) (λ t. pick-when P before (λ p. o ∙ sym p) (λ p. without regs l ∙ sym p)) (λ f. absurd (true-false o f))
 
 -- what WRITE leaves at 04h
 write-day :
@@ -78,13 +89,13 @@ module _ (boots : Bool) (d : Device) (a : ClockAddress) (v : ℕ) (l : length (d
   -- a 0 for VBAT
   pub write-clears :
       a .0 ≡ dayAt → bit v 4 ≡ false
-      → (vbat (writeClock boots d a v .regs) ≡ false) × ((k : ℕ) → powerDownAt ≤ k → k < 32 → getD (writeClock boots d a v .regs) k 0 ≡ 0)
+      → (vbat (writeClock boots d a v .regs) ≡ false) × NoStamps (writeClock boots d a v .regs)
   write-clears e z =
       let regs : List ℕ = dayStored (d .regs) v in
       let f : vbat regs ≡ false = stored-vbat (d .regs) v there ∙ z in
       let g : writeClock boots d a v .regs ≡ unstamped regs = write-day boots d a v e ∙ sym (no _ (unstamped regs) f) in (
         ap vbat g ∙ ap (λ (n : ℕ). bit n 4) (unstamped-other regs dayAt (omega arith)) ∙ f,
-        λ k m h. ap (λ (x : List ℕ). getD x k 0) g ∙ unstamped-zero regs k m h,
+        subst NoStamps (sym g) (unstamped-zero regs),
       )
 
   -- a 1 for it

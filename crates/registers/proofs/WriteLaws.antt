@@ -1,6 +1,6 @@
 -- Laws of WRITE to the clock block: what it leaves alone, the number of registers, what it leaves of the SRAM, and that it keeps a record in range.
 -- Assumes nothing.
-use mathlib.Core.Path.{_≡_, refl, sym, ap, subst, _∙_}
+use mathlib.Core.Path.{_≡_, refl, sym, subst, _∙_}
 use mathlib.Core.Bool.{Bool, false, not, _&&_}
 use mathlib.Core.List.{List}
 use mathlib.Core.Logic.{_≢_}
@@ -24,7 +24,7 @@ use Rattle.record.specs.Setters.{withRegs, withSram, withStartup, withWatchdog,
 use Rattle.record.proofs.PeriodLaws.{period-least}
 use Rattle.record.proofs.StampLaws.{unstamped-length, unstamped-other}
 use Rattle.refusals.specs.InRange.{InRange}
-use Rattle.refusals.proofs.KeepLaws.{ClockOf, Inside, AllInside, Paced, Halted, startup-in, watchdog-in, delay-in, regs-in, set-inside, unstamped-inside, without-vbat-inside, Beside, beside, in-range-beside}
+use Rattle.refusals.proofs.KeepLaws.{ClockOf, Inside, AllInside, Paced, Halted, startup-in, watchdog-in, delay-in, regs-in, regs-beside-in, set-inside, unstamped-inside, without-vbat-inside, Beside, beside, in-range-beside}
 use Rattle.registers.specs.Write.{delayAfter, dayWritten, afterWrite, underMask, writeClock}
 
 -- What holds of what each kind of WRITE leaves, holds of what WRITE leaves: a register's write with what follows from it; an SRAM byte; nothing.
@@ -50,18 +50,18 @@ write-beside boots d a v =
 
 -- what follows from a write is a matter of counts and, at 04h, of VBAT and the time-stamps: no SRAM byte changes, and of other registers none
 pub after-case :
-    (P : List ℕ → Type 0) (boots had : Bool) (a : ℕ) (d : Device) → P (d .regs) → (a ≡ dayAt → P (dayWritten had (d .regs)))
-    → P (afterWrite boots had a d .regs) × (afterWrite boots had a d .sram ≡ d .sram)
+    (P : List ℕ → Type 0) (boots before : Bool) (a : ℕ) (d : Device) → P (d .regs) → (a ≡ dayAt → P (dayWritten before (d .regs)))
+    → P (afterWrite boots before a d .regs) × (afterWrite boots before a d .sram ≡ d .sram)
 unfolding afterWrite
-after-case P boots had a d p q =
+after-case P boots before a d p q =
     let Q : Device → Type 0 = λ e. P (e .regs) × (e .sram ≡ d .sram) in
     pick-case Q (eqb a secondsAt) (pick-case Q (not boots && not (st (d .regs))) (p, refl) (p, refl))
     (pick-when Q (eqb a dayAt) (λ t. (q (eqb-true a dayAt t), refl)) (λ t. pick-case Q (eqb a watchdogAt) (p, refl) (p, refl)))
 
-day-length : (had : Bool) (regs : List ℕ) → length (dayWritten had regs) ≡ length regs
-day-length had regs =
+day-length : (before : Bool) (regs : List ℕ) → length (dayWritten before regs) ≡ length regs
+day-length before regs =
     let P : List ℕ → Type 0 = λ l. length l ≡ length regs in
-    pick-case P (vbat regs) (pick-case P had refl (length-set regs dayAt _)) (unstamped-length regs)
+    pick-case P (vbat regs) (pick-case P before refl (length-set regs dayAt _)) (unstamped-length regs)
 
 -- so that there are as many registers,
 pub write-regs-length : (boots : Bool) (d : Device) (a : ClockAddress) (v : ℕ) → length (writeClock boots d a v .regs) ≡ length (d .regs)
@@ -89,32 +89,31 @@ written-inside a old v h i =
     (same-below (λ (k : ℕ). bitAnd (getD writable k 0) (getD kept k 0)) (λ (k : ℕ). getD writable k 0) 32 refl a h)
 
 -- at 04h what follows is inside the masks too
-day-inside : (had : Bool) (regs : List ℕ) → AllInside regs → AllInside (dayWritten had regs)
-day-inside had regs i =
+day-inside : (before : Bool) (regs : List ℕ) → AllInside regs → AllInside (dayWritten before regs)
+day-inside before regs i =
     pick-case AllInside (vbat regs)
-    (pick-case AllInside had i (without-vbat-inside regs i))
+    (pick-case AllInside before i (without-vbat-inside regs i))
     (unstamped-inside regs i)
 
 -- and leaves the registers below 18h but 04h alone
-day-other : (had : Bool) (regs : List ℕ) (k : ℕ) → k < powerDownAt → k ≢ dayAt → getD (dayWritten had regs) k 0 ≡ getD regs k 0
-day-other had regs k h n =
+day-other : (before : Bool) (regs : List ℕ) (k : ℕ) → k < powerDownAt → k ≢ dayAt → getD (dayWritten before regs) k 0 ≡ getD regs k 0
+day-other before regs k h n =
     let P : List ℕ → Type 0 = λ l. getD l k 0 ≡ getD regs k 0 in
-    pick-case P (vbat regs) (pick-case P had refl (getD-set-other regs dayAt k _ 0 n)) (unstamped-other regs k h)
+    pick-case P (vbat regs) (pick-case P before refl (getD-set-other regs dayAt k _ 0 n)) (unstamped-other regs k h)
 
 -- so it keeps a clock in range
-day-in : (boots had : Bool) (d : Device) → ClockOf boots d → ClockOf boots (withRegs d (dayWritten had (d .regs)))
-day-in boots had d r =
+day-in : (boots before : Bool) (d : Device) → ClockOf boots d → ClockOf boots (withRegs d (dayWritten before (d .regs)))
+day-in boots before d r =
     let regs : List ℕ = d .regs in
-    regs-in boots d r (dayWritten had regs) (day-inside had regs (r .inside))
-    (subst (λ (v : ℕ). d .counters .watchdog < periodOf v) (sym (day-other had regs watchdogAt (omega arith) (λ z. omega arith))) (r .watchdog))
-    (subst (λ (v : ℕ). boots ≡ false → bit v 7 ≡ false → d .counters .startup ≡ 0) (sym (day-other had regs secondsAt (omega arith) (λ z. omega arith))) (r .stopped))
+    regs-beside-in boots d r (dayWritten before regs) (day-inside before regs (r .inside))
+    (day-other before regs watchdogAt (omega arith) (λ z. omega arith)) (day-other before regs secondsAt (omega arith) (λ z. omega arith))
 
 -- What follows from a write keeps it in range, over the registers as the write left them; before it they were others.
 after-in :
-    (boots had : Bool) (a : ℕ) (old : List ℕ) (d : Device) → ClockOf boots (withRegs d old) → AllInside (d .regs)
-    → (a ≢ watchdogAt → Paced (d .counters) (d .regs)) → (a ≢ secondsAt → Halted boots (d .counters) (d .regs)) → ClockOf boots (afterWrite boots had a d)
+    (boots before : Bool) (a : ℕ) (old : List ℕ) (d : Device) → ClockOf boots (withRegs d old) → AllInside (d .regs)
+    → (a ≢ watchdogAt → Paced (d .counters) (d .regs)) → (a ≢ secondsAt → Halted boots (d .counters) (d .regs)) → ClockOf boots (afterWrite boots before a d)
 unfolding afterWrite
-after-in boots had a old d r i paced halted =
+after-in boots before a old d r i paced halted =
     let o : Device = withRegs d old in
     pick-when (ClockOf boots) (eqb a secondsAt)
     (λ e.
@@ -127,7 +126,7 @@ after-in boots had a old d r i paced halted =
     pick-when (ClockOf boots) (eqb a dayAt)
     (λ q.
     let n : a ≢ watchdogAt = λ z. omega (arith, eqb-true a dayAt q) in
-    day-in boots had d (regs-in boots o r (d .regs) i (paced n) (halted m)))
+    day-in boots before d (regs-in boots o r (d .regs) i (paced n) (halted m)))
     (λ q.
     pick-when (ClockOf boots) (eqb a watchdogAt)
     (λ w.
@@ -140,9 +139,9 @@ after-in boots had a old d r i paced halted =
 
 -- a stored register and what follows from it
 after-write-in :
-    (boots had : Bool) (a s : ℕ) (d : Device) → Inside a s → ClockOf boots d → ClockOf boots (afterWrite boots had a (withRegs d (set (d .regs) a s)))
-after-write-in boots had a s d i r =
-    after-in boots had a (d .regs) (withRegs d (set (d .regs) a s)) r (set-inside (d .regs) a s i (r .inside))
+    (boots before : Bool) (a s : ℕ) (d : Device) → Inside a s → ClockOf boots d → ClockOf boots (afterWrite boots before a (withRegs d (set (d .regs) a s)))
+after-write-in boots before a s d i r =
+    after-in boots before a (d .regs) (withRegs d (set (d .regs) a s)) r (set-inside (d .regs) a s i (r .inside))
     (λ n. set-case (λ (v : ℕ). d .counters .watchdog < periodOf v) (d .regs) a watchdogAt s (λ e. absurd (n (sym e))) (r .watchdog))
     (λ n. set-case (λ (v : ℕ). boots ≡ false → bit v 7 ≡ false → d .counters .startup ≡ 0) (d .regs) a secondsAt s (λ e. absurd (n (sym e))) (r .stopped))
 

@@ -22,11 +22,11 @@ abbrev wroteAll : ℕ → ℕ
 wroteAll a = getD (writeClock false (chip started (counts 0 0 0 0 0)) (record { 0 = a }) 0xff .regs) a 0
 
 -- a register after a byte is written to another, where VBAT is set and both time-stamps hold something
-abbrev held : List ℕ
-held = set (set (set started 0x04 0x1a) 0x18 0x59) 0x1f 0xa5
+abbrev stampedRegs : List ℕ
+stampedRegs = set (set (set started 0x04 0x1a) 0x18 0x59) 0x1f 0xa5
 
 abbrev wroteOver : ℕ → ℕ → ℕ → ℕ
-wroteOver a v k = getD (writeClock false (chip held (counts 0 0 0 0 0)) (record { 0 = a }) v .regs) k 0
+wroteOver a v k = getD (writeClock false (chip stampedRegs (counts 0 0 0 0 0)) (record { 0 = a }) v .regs) k 0
 
 -- start-up count, watchdog's count and delay after a write
 abbrev countsAfter : Bool → ℕ → ℕ → List ℕ

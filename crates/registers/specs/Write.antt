@@ -18,19 +18,19 @@ use Rattle.record.specs.Setters.{withRegs, withSram, withStartup, withWatchdog,
 abbrev pub delayAfter : ℕ → ℕ
 delayAfter v = pick ((wdten v && wddel v) && not (wdtif v)) delayTicks 0
 
--- P16. The registers after a write of 04h, where VBAT was set before it or not: VBAT written 0 is clear, and so are both time-stamps; VBAT
--- written 1 stays what it was.
+-- P16. The registers after a write of 04h, where VBAT was set before it or not: VBAT written 0 is clear, and both time-stamps are; VBAT written 1
+-- stays what it was.
 abbrev pub dayWritten : Bool → List ℕ → List ℕ
-dayWritten had regs = pick (vbat regs) (pick had regs (withoutVbat regs)) (unstamped regs)
+dayWritten vbatBefore regs = pick (vbat regs) (pick vbatBefore regs (withoutVbat regs)) (unstamped regs)
 
 -- What follows from the write of register a, by the registers as it left them, and by VBAT as it was before.
 -- K4. ST cleared on a W part zeroes the start-up count, and with it OSCON.
--- P16. VBAT can be cleared by a write and not set; with it go both time-stamps.
+-- P16. VBAT may have to be put back, or the time-stamps cleared.
 -- K27. Any write of 0Ah zeroes the watchdog's count and sets the delay anew.
 unfoldable pub afterWrite : Bool → Bool → ℕ → Device → Device
-afterWrite boots had a d =
+afterWrite boots vbatBefore a d =
     pick (eqb a secondsAt) (pick (not boots && not (st (d .regs))) (withStartup d 0) d)
-    (pick (eqb a dayAt) (withRegs d (dayWritten had (d .regs)))
+    (pick (eqb a dayAt) (withRegs d (dayWritten vbatBefore (d .regs)))
     (pick (eqb a watchdogAt) (withDelay (withWatchdog d 0) (delayAfter (getD (d .regs) watchdogAt 0))) d))
 
 -- F12. A byte written over another under a mask: the mask's bits are the new byte's, the others keep their value.

@@ -28,25 +28,25 @@ fn delay_after(v: u8) -> u32
     }
 }
 
-// The registers after a write of 04h: a 0 clears VBAT and both time-stamps, a 1 leaves VBAT what it was.
-fn day_written(had: bool, regs: [u8; 32]) -> [u8; 32]
-    ensures { λ r. ⌜ r ≡ dayWritten had regs ⌝ }
+// The registers after a write of 04h, with VBAT as it was before: a 0 clears VBAT and both time-stamps, a 1 leaves VBAT what it was.
+fn day_written(vbat: bool, regs: [u8; 32]) -> [u8; 32]
+    ensures { λ r. ⌜ r ≡ dayWritten vbat regs ⌝ }
 {
     let written = registers::failure_held(regs);
     if written {
-        if had {
+        if vbat {
             return regs;
         }
         let mut next = regs;
         next[DAY] = regs[DAY] & !VBAT;
         return next;
     }
-    stamps::cleared(regs)
+    stamps::unstamped(regs)
 }
 
 // What follows from a register's write: 01h may stop the oscillator, 04h may clear VBAT, 0Ah restarts the watchdog.
-fn after_write(boots: bool, had: bool, at: ClockAddress, d: Device) -> Device
-    ensures { λ r. ⌜ r ≡ afterWrite boots had (at .0) d ⌝ }
+fn after_write(boots: bool, vbat: bool, at: ClockAddress, d: Device) -> Device
+    ensures { λ r. ⌜ r ≡ afterWrite boots vbat (at .0) d ⌝ }
 {
     let a = at.0 as usize;
     if a == SECONDS {
@@ -60,7 +60,7 @@ fn after_write(boots: bool, had: bool, at: ClockAddress, d: Device) -> Device
         return d;
     }
     if a == DAY {
-        let regs = day_written(had, d.regs);
+        let regs = day_written(vbat, d.regs);
         let mut next = d;
         next.regs = regs;
         return next;
@@ -89,11 +89,11 @@ fn write_register(boots: bool, d: Device, at: ClockAddress, v: u8) -> Device
     ensures { λ r. ⌜ r ≡ writeRegister boots d (at .0) v ⌝ }
 {
     let i = at.0 as usize;
-    let had = registers::failure_held(d.regs);
+    let vbat = registers::failure_held(d.regs);
     let stored = under_mask(WRITABLE[i], d.regs[i], v);
     let mut next = d;
     next.regs[i] = stored;
-    after_write(boots, had, at, next)
+    after_write(boots, vbat, at, next)
 }
 
 // From 60h up a WRITE is dropped (bench).

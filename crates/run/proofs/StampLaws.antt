@@ -4,7 +4,7 @@
 use Prim.Native.Nat.{ℕ, _<_, _≤_}
 use native.Mathlib.Omega.{arith}
 use mathlib.Core.Path.{_≡_, refl, sym, ap, subst, _∙_}
-use mathlib.Core.Bool.{Bool, true, false, not, true≢false}
+use mathlib.Core.Bool.{true, false, not, true≢false}
 use mathlib.Core.Logic.{_⊎_, inl, inr, ⊎-elim, _≢_}
 use mathlib.Core.List.{List, [], _∷_}
 use borrow.Author.Tests.{eqb-true, eqb-false, ltb-true, ltb-false, not-false}
@@ -22,33 +22,31 @@ use Rattle.record.specs.declared.Stage.{Stage}
 use Rattle.record.specs.declared.Stage.the-variants.{Idle, Opened, Unheard, Instruction, Reading, Writing, Second, Over}
 use Rattle.record.specs.Fresh.{fresh}
 use Rattle.record.specs.Numbers.{placeKind, placeValue, stageKind}
-use Rattle.record.specs.Part.{isPart, topOf, bootsOf}
-use Rattle.record.specs.Registers.{vbaten, vbat, dayAt, powerUpAt}
+use Rattle.record.specs.Part.{topOf, bootsOf}
+use Rattle.record.specs.Registers.{vbaten, vbat, dayAt}
 use Rattle.record.specs.Stages.{framePlace}
-use Rattle.record.specs.Stamps.{Shows, SameStamps}
+use Rattle.record.specs.Stamps.{toDay, NoStamps, Shows}
 use Rattle.record.specs.World.{World, Shaped, freshWorld}
 use Rattle.record.proofs.StampLaws.{shows-kept}
 use Rattle.refusals.specs.InRange.{InRange}
-use Rattle.refusals.specs.Refusal.{wrongArg, wrongPower}
+use Rattle.refusals.specs.Refusal.{wrongPower}
 use Rattle.refusals.proofs.RangeLaws.{in-range, out-of-range}
 use Rattle.refusals.proofs.TableLaws as table
 use Rattle.ticks.specs.Tick.{waited}
-use Rattle.ticks.specs.RecordTick.{deviceWaited}
 use Rattle.ticks.proofs.StampLaws.{StampsStay, stay-then, wait-stamps}
-use Rattle.ticks.proofs.TickLaws.{Steady}
 use Rattle.ticks.proofs.WaitLaws.{wait-device, wait-spent}
 use Rattle.frames.specs.Frame.{afterSelect, afterByte}
 use Rattle.frames.proofs.FrameLaws.{written-beside}
-use Rattle.frames.proofs.StampLaws.{byte-clears, byte-leaves-vbat, byte-other-vbat, byte-stamps}
+use Rattle.frames.proofs.StampLaws.{stamp-reply, byte-clears, byte-leaves-vbat, byte-other-vbat, byte-stamps}
 use Rattle.ends.specs.End.{afterEnd}
 use Rattle.power.specs.Power.{afterCut, cutWorld, afterUp}
 use Rattle.power.proofs.PowerLaws.{cut-device, cut-beside}
-use Rattle.power.proofs.StampLaws.{cut-stamps, cut-held, fresh-stamp, cut-lost, up-mark, up-stamps, up-leaves}
-use Rattle.acts.specs.Act.{Outcome, accepted, refused, refusalIn, performed}
+use Rattle.power.proofs.StampLaws.{cut-mark, cut-stamps, cut-held, fresh-stamp, cut-lost, up-mark, up-stamps, up-leaves}
+use Rattle.acts.specs.Act.{Outcome, accepted, refusalIn, performed}
 use Rattle.acts.proofs.OutcomeLaws.{answered-by-table, by-acceptance, by-refusal}
 use Rattle.acts.proofs.ValidLaws.{Valid, performed-valid, fresh-valid}
-use Rattle.run.specs.Claim.{Input, ourChip, worldAfter, reached}
-use Rattle.run.specs.Stamps.{NoStamps, toDay, StampAct, fails, forgets, returns, clears, VbatAct, sets, loses, resets, NoUp, powerOff, powerBack, PowerFailure, TimeStamps}
+use Rattle.run.specs.Claim.{Input, ourChip, worldAfter}
+use Rattle.run.specs.Stamps.{StampAct, fails, forgets, returns, clears, VbatAct, sets, loses, resets, NoUp, powerOff, powerBack, PowerFailure, TimeStamps}
 use Rattle.run.proofs.RunLaws.{reached-in-range}
 
 -- whether a stage is a WRITE whose next byte goes to 04h
@@ -91,9 +89,6 @@ cut-is P mask w p = subst P (sym (cut-device mask w)) p
 
 -- What an accepted act changes.
 module _ (part arg : ℕ) (w : World) (z : Shaped part w) where
-  d : Device
-  d = w .device
-
   size : length (w .device .regs) ≡ 32
   size = z .sized .regs
 
@@ -157,6 +152,17 @@ module _ (part arg : ℕ) (w : World) (z : Shaped part w) where
       (λ t. absurd (n (ap (λ (x : ℕ). bit x 4) (up-stamps (w .device) t size .others dayAt (omega arith)))))
       (λ f. absurd (n (ap vbat (up-leaves (w .device) f))))
 
+-- The mark, whatever the sizes.
+mark-of :
+    (part arg : ℕ) (w : World) (act : Act) → accepted part arg w act .after .device .mark ≢ w .device .mark → (act ≡ Cut) ⊎ (act ≡ Up)
+unfolding afterSelect afterByte afterEnd
+mark-of part arg w Select n = absurd (n refl)
+mark-of part arg w Byte n = absurd (n (written-beside (bootsOf part) (w .device) arg (w .device .frame .stage) .mark))
+mark-of part arg w End n = absurd (n refl)
+mark-of part arg w Wait n = absurd (n (wait-stays part arg w .mark))
+mark-of part arg w Cut n = inl refl
+mark-of part arg w Up n = inr refl
+
 -- So of every act; a refused one changes nothing.
 changed-by :
     {A : Type 0} (f : World → A) (Q : Type 0) (part : ℕ) (act : Act) (arg : ℕ) (w : World)
@@ -171,11 +177,12 @@ changed-by f Q part act arg w q n =
     ))
     (λ t. absurd (n (ap (λ (o : Outcome). f (o .after)) (by-refusal part act arg w t))))
 
--- a byte that is done, as the accepted one
-byte-done :
-    (part arg : ℕ) (w : World) → performed part Byte arg w .number ≡ 0
-    → performed part Byte arg w .after .device ≡ afterByte (bootsOf part) (topOf part) arg (w .device)
-byte-done part arg w e = ap (λ (o : Outcome). o .after .device) (by-acceptance part Byte arg w (sym (answered-by-table part Byte arg w) ∙ e))
+-- an act that is done, as the accepted one
+done-as : (part : ℕ) (act : Act) (arg : ℕ) (w : World) → performed part act arg w .number ≡ 0 → performed part act arg w ≡ accepted part arg w act
+done-as part act arg w e = by-acceptance part act arg w (sym (answered-by-table part act arg w) ∙ e)
+
+abbrev device-of : Outcome → Device
+device-of o = o .after .device
 
 -- A power failure. What stays in it, from the cut to the up: power is off, and time-stamps, VBAT and mark are those of the cut.
 record Off (part : ℕ) (c v : World) : Type 0 where
@@ -237,7 +244,7 @@ module _ (part mask : ℕ) (xs : List Input) (w : World) (z : Shaped part w) (e 
   passed-cut = sym (answered-by-table part Cut mask w) ∙ e
 
   cut-done : performed part Cut mask w .after .device ≡ afterCut mask (w .device)
-  cut-done = ap (λ (o : Outcome). o .after .device) (by-acceptance part Cut mask w passed-cut) ∙ cut-device mask w
+  cut-done = ap device-of (done-as part Cut mask w e) ∙ cut-device mask w
 
   suited : table.Suited part (w .device) (length (w .eeprom)) (length (w .id))
   suited = table.accepted part Cut mask (w .device) _ _ passed-cut .setup
@@ -270,7 +277,7 @@ module _ (part mask : ℕ) (xs : List Input) (w : World) (z : Shaped part w) (e 
       })
 
   up-done : powerBack part mask xs w .after .device ≡ afterUp (v .device)
-  up-done = ap (λ (o : Outcome). o .after .device) (by-acceptance part Up 0 v passed-up)
+  up-done = ap device-of (by-acceptance part Up 0 v passed-up)
 
   up-size : length (v .device .regs) ≡ 32
   up-size = off .valid .shaped .sized .regs
@@ -409,17 +416,28 @@ pub time-stamps : TimeStamps
 time-stamps =
     record {
       failure = power-failure;
+      cutMark =
+          λ part mask w e.
+          ap (λ (o : Outcome). o .after .device .mark) (done-as part Cut mask w e)
+          ∙ ap (λ (x : Device). x .mark) (cut-device mask w) ∙ cut-mark mask (w .device);
+      marked =
+          λ part w z e m.
+          subst (λ (x : Device). Shows 0x1c (x .regs) (w .device .regs)) (sym (ap device-of (done-as part Up 0 w e)))
+          (up-stamps (w .device) m (z .sized .regs) .up);
+      plain = λ part w e m. ap (λ (o : Outcome). o .after .device .regs) (done-as part Up 0 w e) ∙ up-leaves (w .device) m;
+      upMark = λ part w e. ap (λ (o : Outcome). o .after .device .mark) (done-as part Up 0 w e) ∙ up-mark (w .device);
       cleared =
           λ part arg w z e s f.
           let b = byte-clears (bootsOf part) (topOf part) arg (w .device) (z .sized .regs) s f in
-          rw (byte-done part arg w e) (b .1, b .0);
+          rw (done-as part Byte arg w e) (b .1, b .0);
       left =
           λ part arg w z e s b.
           let r = in-range part (w .device) (table.accepted part Byte arg (w .device) _ _ (sym (answered-by-table part Byte arg w) ∙ e) .setup .ranged) in
-          rw (byte-done part arg w e) (
-            byte-stamps (bootsOf part) (topOf part) arg (w .device) (z .sized .regs) (r .clock .inside) (λ q. true-false b (q .1)),
-            byte-leaves-vbat (bootsOf part) (topOf part) arg (w .device) (z .sized .regs) s b,
-          );
+          rw (done-as part Byte arg w e)
+          (byte-stamps (bootsOf part) (topOf part) arg (w .device) (z .sized .regs) (r .clock .inside) (λ q. true-false b (q .1)),
+          byte-leaves-vbat (bootsOf part) (topOf part) arg (w .device) (z .sized .regs) s b);
+      read =
+          λ part arg w a e s l h. ap (λ (o : Outcome). o .reply) (done-as part Byte arg w e) ∙ stamp-reply (w .eeprom) (w .id) (w .device) a s l h;
       only =
           λ part act arg w k z h.
           changed-by (λ (x : World). getD (x .device .regs) k 0) (StampAct act arg (w .device) k) part act arg w
@@ -427,6 +445,9 @@ time-stamps =
       onlyVbat =
           λ part act arg w z.
           changed-by (λ (x : World). vbat (x .device .regs)) (VbatAct act arg (w .device)) part act arg w (λ e n. vbat-of part arg w z act e n);
+      onlyMark =
+          λ part act arg w.
+          changed-by (λ (x : World). x .device .mark) ((act ≡ Cut) ⊎ (act ≡ Up)) part act arg w (λ e n. mark-of part arg w act n);
       unmarked = λ part p xs. reached-in-range part p xs .power .unmarked;
       empty = λ part p xs. settled-run part xs (freshWorld part) (fresh-valid part) fresh-settled .empty;
     }

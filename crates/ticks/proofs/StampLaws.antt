@@ -3,14 +3,14 @@
 use mathlib.Core.Path.{_≡_, refl, ap, _∙_}
 use mathlib.Core.Bool.{Bool}
 use mathlib.Core.List.{List}
-use Prim.Native.Nat.{ℕ, _≤_}
+use Prim.Native.Nat.{ℕ}
 use native.Mathlib.Omega.{arith}
 use lib.ListN.{getD}
 use lib.Seq.{getD-set-other}
 use Rattle.base.proofs.Tests.{pick-case}
 use Rattle.base.proofs.WaitLaws.{wait-each}
 use Rattle.record.specs.declared.Device.{Device}
-use Rattle.record.specs.Registers.{vbat, oscon, watchdogAt, powerDownAt}
+use Rattle.record.specs.Registers.{vbat, oscon, watchdogAt}
 use Rattle.record.specs.Stamps.{SameStamps}
 use Rattle.ticks.specs.Lines.{changed}
 use Rattle.ticks.specs.Oscillator.{oscillatorTick}
@@ -18,7 +18,7 @@ use Rattle.ticks.specs.Watchdog.{watchdogTick}
 use Rattle.ticks.specs.Tick.{cycleDevice, clockwork, alive}
 use Rattle.ticks.specs.RecordTick.{deviceTick, deviceWaited}
 use Rattle.ticks.proofs.ClockLaws.{clock-other}
-use Rattle.ticks.proofs.TickLaws.{Ticked, cycle-step, device-ticked, watchdog-case, oscillator-regs, clockwork-vbat}
+use Rattle.ticks.proofs.TickLaws.{cycle-step, device-ticked, watchdog-case, oscillator-regs, clockwork-vbat}
 
 pub record StampsStay (d e : Device) : Type 0 where
   pub stamps : SameStamps (d .regs) (e .regs)
