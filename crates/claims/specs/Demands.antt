@@ -76,5 +76,5 @@ pub record Demands : Type 2 where
   pub total : Total
   pub exact : Exact
   pub accountable : Accountable
-  -- request 1: the time-stamps of a power failure
+  -- the time-stamps of a power failure
   pub timeStamps : TimeStamps

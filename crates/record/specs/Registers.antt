@@ -118,18 +118,18 @@ wddel v = bit v 5
 abbrev pub wdtpls : ℕ → Bool
 wdtpls v = bit v 4
 
--- F13. The bits of the registers 00h to 17h: what WRITE stores of each is all that it may hold.
+-- F13. The bits of the registers 00h to 17h: those that a WRITE may change (VBAT it only clears) are all that a register may hold.
 abbrev masks : List ℕ
 masks =
     0xff ∷ 0xff ∷ 0x7f ∷ 0xff ∷ 0x1f ∷ 0x3f ∷ 0x1f ∷ 0xff
     ∷ 0xff ∷ 0xff ∷ 0xff ∷ 0xff ∷ 0x7f ∷ 0x7f ∷ 0x3f ∷ 0xff
     ∷ 0x3f ∷ 0x1f ∷ 0xff ∷ 0x7f ∷ 0x7f ∷ 0x3f ∷ 0xff ∷ 0x3f ∷ []
 
--- F13, C5. The bits of each register that WRITE stores, 00h to 1Fh: of a time-stamp none.
+-- F13, C5. The bits of each register that a WRITE may change, 00h to 1Fh: of a time-stamp none.
 abbrev pub writable : List ℕ
 writable = masks ++ replicate 8 0x00
 
--- F17, C5. The bits that a register may hold, which number 6 judges: of a time-stamp all.
+-- F17, A27, C5. The bits that a register may hold, which number 6 judges: of a time-stamp all.
 abbrev pub kept : List ℕ
 kept = masks ++ replicate 8 0xff
 

@@ -75,7 +75,7 @@ pub const ALM_CODE: u8 = 0x10;
 
 pub const ALM_IF: u8 = 0x08;
 
-// The bits of each register that WRITE stores, 00h to 1Fh; of a time-stamp none.
+// The bits of each register that a WRITE may change, 00h to 1Fh; of a time-stamp none.
 pub const WRITABLE: [u8; 32] = [
     0xff,
     0xff,

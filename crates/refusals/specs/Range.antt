@@ -55,7 +55,7 @@ idPointerAbove p = ltb 15 (idPointer p)
 abbrev pub eepromPointerPast : ℕ → Place → Bool
 eepromPointerPast size p = leb size (eepromPointer p)
 
--- A27. a stored bit outside its register's mask
+-- A27. a stored bit that its register may not hold
 abbrev pub insideMask : List ℕ → ℕ → Bool
 insideMask regs k = eqb (bitAnd (getD regs k 0) (getD kept k 0)) (getD regs k 0)
 
