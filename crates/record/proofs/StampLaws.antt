@@ -1,4 +1,4 @@
--- Laws of the time-stamps as registers: what a copied one shows, what it and the clearing leave alone, and that both leave as many registers.
+-- Laws of the time-stamps as registers: their masks, what a copied one shows, what it and the clearing leave alone, and that both leave as many registers.
 -- Assumes nothing.
 use Prim.Native.Nat.{ℕ, zero, suc, _+_, _/_, _%_, _<_, _≤_}
 use native.Mathlib.Nat.{suc-inj}
@@ -11,9 +11,20 @@ use lib.Dec.{ltb}
 use lib.ListN.{length, getD, set, length-set}
 use lib.Seq.{getD-set-same, getD-set-other}
 use Rattle.base.proofs.StoreLaws.{set-each}
+use Rattle.base.specs.Words.{every}
+use Rattle.base.proofs.Every.{same-below, same-from}
 use Rattle.base.proofs.Tests.{by-cases}
-use Rattle.record.specs.Registers.{minutesAt, dateAt, powerDownAt, powerUpAt}
+use Rattle.record.specs.Registers.{minutesAt, dateAt, powerDownAt, powerUpAt, writable, kept}
 use Rattle.record.specs.Stamps.{stampAt, stampHours, stampMonth, stamped, unstamped, NoStamps, Shows}
+
+-- The bits that a register may hold: below the time-stamps those that a WRITE may change, of a time-stamp all.
+pub same-masks : (k : ℕ) → k < powerDownAt → getD writable k 0 ≡ getD kept k 0
+unfolding every
+same-masks k h = same-below (λ (n : ℕ). getD writable n 0) (λ (n : ℕ). getD kept n 0) powerDownAt refl k h
+
+pub stamp-mask : (k : ℕ) → powerDownAt ≤ k → k < 32 → getD kept k 0 ≡ 0xff
+unfolding every
+stamp-mask k l h = same-from (λ (n : ℕ). getD kept n 0) 0xff powerDownAt 8 refl k l (omega arith)
 
 -- What holds of each register and of each new one at its place, holds of each after a time-stamp is put there.
 module _ (P : ℕ → ℕ → Type 0) (a : ℕ) where

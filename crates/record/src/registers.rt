@@ -2,7 +2,9 @@
 use crate::ClockAddress;
 use crate::Counters;
 ghost use mathlib.Core.Path.{_≡_};
-ghost use Rattle.record.specs.Registers.{periodOf, oscon, vbaten, vbat};
+ghost use Prim.Native.Nat.{_<_};
+ghost use lib.ListN.{getD};
+ghost use Rattle.record.specs.Registers.{kept, periodOf, oscon, vbaten, vbat};
 
 // Addresses by the sheet's names.
 pub const HUNDREDTHS: usize = 0x00;
@@ -111,42 +113,6 @@ pub const WRITABLE: [u8; 32] = [
     0,
 ];
 
-// The bits that a register may hold; of a time-stamp all.
-pub const KEPT: [u8; 32] = [
-    0xff,
-    0xff,
-    0x7f,
-    0xff,
-    0x1f,
-    0x3f,
-    0x1f,
-    0xff,
-    0xff,
-    0xff,
-    0xff,
-    0xff,
-    0x7f,
-    0x7f,
-    0x3f,
-    0xff,
-    0x3f,
-    0x1f,
-    0xff,
-    0x7f,
-    0x7f,
-    0x3f,
-    0xff,
-    0x3f,
-    0xff,
-    0xff,
-    0xff,
-    0xff,
-    0xff,
-    0xff,
-    0xff,
-    0xff,
-];
-
 // The watchdog's periods in ticks, by bits 2:0 of 0Ah.
 const PERIODS: [u32; 8] = [32, 512, 2048, 4096, 32768, 524288, 1048576, 2097152];
 
@@ -171,6 +137,18 @@ pub const DELAY_TICKS: u32 = 2097152;
 
 // The longest wait.
 pub const WAIT_LIMIT: u64 = 16777216;
+
+// The bits that a register may hold: those that a WRITE may change; of a time-stamp all.
+pub fn kept_bits(at: ClockAddress) -> u8
+    requires { ⌜ at .0 < 32 ⌝ }
+    ensures { λ r. ⌜ r ≡ getD kept (at .0) 0 ⌝ }
+{
+    if at.0 < POWER_DOWN.0 {
+        let i = at.0 as usize;
+        return WRITABLE[i];
+    }
+    0xff
+}
 
 // The period that a value of 0Ah sets.
 pub fn period(v: u8) -> u32

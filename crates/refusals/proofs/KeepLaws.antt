@@ -9,7 +9,7 @@ use mathlib.Core.List.{List}
 use lib.Bits.{bitAnd, bitOr, and-le-r}
 use lib.ListN.{getD, set}
 use Rattle.base.specs.Words.{bit, every}
-use Rattle.base.proofs.Every.{same-from, bound-below}
+use Rattle.base.proofs.Every.{bound-below}
 use Rattle.base.proofs.BitLaws.{below-mask, inside-and, and-or}
 use Rattle.base.proofs.StoreLaws.{set-case}
 use Rattle.record.specs.declared.Device.{Device}
@@ -19,7 +19,7 @@ use Rattle.record.specs.Part.{bootsOf}
 use Rattle.record.specs.Registers.{st, secondsAt, minutesAt, dayAt, dateAt, watchdogAt, powerDownAt, kept, periodOf, startupTicks, dividerTicks, longPulse, delayTicks}
 use Rattle.record.specs.Setters.{withRegs, withSram, withCounters, withDivider, withStartup, withWatchdog, withDelay, withPulse, withGuard, withLeft}
 use Rattle.record.specs.Stamps.{stamped, unstamped, withVbat, withoutVbat}
-use Rattle.record.proofs.StampLaws.{stamped-each, unstamped-each}
+use Rattle.record.proofs.StampLaws.{stamp-mask, stamped-each, unstamped-each}
 use Rattle.refusals.specs.InRange.{ClockRange, InRange}
 
 -- the range of a device's registers and counts, and the three facts of it that read a register
@@ -76,10 +76,6 @@ pub set-inside : (regs : List ℕ) (a v : ℕ) → Inside a v → AllInside regs
 set-inside regs a v p q k h = set-case (Inside k) regs a k v (λ e. subst (λ (j : ℕ). Inside j v) (sym e) p) (q k h)
 
 -- of a time-stamp every byte is inside
-stamp-mask : (k : ℕ) → powerDownAt ≤ k → k < 32 → getD kept k 0 ≡ 0xff
-unfolding every
-stamp-mask k l h = same-from (λ (n : ℕ). getD kept n 0) 0xff powerDownAt 8 refl k l (omega arith)
-
 stamp-byte : (k v : ℕ) → powerDownAt ≤ k → k < 32 → v < 256 → Inside k v
 stamp-byte k v l h b = rw (stamp-mask k l h) (below-mask 8 (omega arith) v b b)
 

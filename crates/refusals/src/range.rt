@@ -1,4 +1,5 @@
 // Number 6: the record is out of range. Each row of the table's list is a test over the fields that it reads.
+use record::ClockAddress;
 use record::Counters;
 use record::Cycle;
 use record::Device;
@@ -10,7 +11,6 @@ use record::registers;
 use record::registers::CYCLE_TICKS;
 use record::registers::DELAY_TICKS;
 use record::registers::DIVIDER_LAST;
-use record::registers::KEPT;
 use record::registers::LONG_PULSE;
 use record::registers::SECONDS;
 use record::registers::ST;
@@ -24,10 +24,10 @@ ghost use Rattle.refusals.specs.Range.{bitOutside, clockOut, frameOut, c
 fn bit_outside(regs: [u8; 32]) -> bool
     ensures { λ r. ⌜ r ≡ bitOutside regs ⌝ }
 {
-    let kept = KEPT;
     let mut i: usize = 0;
     while i < 32 {
-        if (regs[i] & kept[i]) != regs[i] {
+        let kept = registers::kept_bits(ClockAddress(i as u8));
+        if (regs[i] & kept) != regs[i] {
             return true;
         }
         i += 1;

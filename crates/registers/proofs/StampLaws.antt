@@ -31,9 +31,13 @@ use Rattle.registers.proofs.WriteLaws.{write-case, after-case}
 pub read-stamp : (d : Device) (a : ClockAddress) → powerDownAt ≤ a .0 → a .0 < 32 → readClock d a ≡ getD (d .regs) (a .0) 0
 unfolding readClock
 read-stamp d a l h =
-    simp
-    (lt-ltb (a .0) 0x20 h, ne-eqb (a .0) dayAt (λ e. omega arith), ne-eqb (a .0) monthAt (λ e. omega arith),
-    ne-eqb (a .0) alarm0HoursAt (λ e. omega arith), ne-eqb (a .0) alarm1HoursAt (λ e. omega arith))
+    simp (
+      lt-ltb (a .0) 0x20 h,
+      ne-eqb (a .0) dayAt (λ e. omega arith),
+      ne-eqb (a .0) monthAt (λ e. omega arith),
+      ne-eqb (a .0) alarm0HoursAt (λ e. omega arith),
+      ne-eqb (a .0) alarm1HoursAt (λ e. omega arith),
+    )
     (or-zero-r (getD (d .regs) (a .0) 0))
 
 -- Of a time-stamp nothing is written.

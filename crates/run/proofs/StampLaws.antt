@@ -433,9 +433,10 @@ time-stamps =
       left =
           λ part arg w z e s b.
           let r = in-range part (w .device) (table.accepted part Byte arg (w .device) _ _ (sym (answered-by-table part Byte arg w) ∙ e) .setup .ranged) in
-          rw (done-as part Byte arg w e)
-          (byte-stamps (bootsOf part) (topOf part) arg (w .device) (z .sized .regs) (r .clock .inside) (λ q. true-false b (q .1)),
-          byte-leaves-vbat (bootsOf part) (topOf part) arg (w .device) (z .sized .regs) s b);
+          rw (done-as part Byte arg w e) (
+            byte-stamps (bootsOf part) (topOf part) arg (w .device) (z .sized .regs) (r .clock .inside) (λ q. true-false b (q .1)),
+            byte-leaves-vbat (bootsOf part) (topOf part) arg (w .device) (z .sized .regs) s b,
+          );
       read =
           λ part arg w a e s l h. ap (λ (o : Outcome). o .reply) (done-as part Byte arg w e) ∙ stamp-reply (w .eeprom) (w .id) (w .device) a s l h;
       only =
