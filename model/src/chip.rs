@@ -384,8 +384,8 @@ fn write_clock(part: u64, device: &mut Device, address: u8, byte: u8) {
     }
 }
 
-/// 02 Time-stamps: bits outside the mask keep their value. So does VBAT where a 1 is written to it;
-/// a 0 clears it and both time-stamps.
+/// 02 Time-stamps: the masks from 18h on stay 0, so bits outside a mask keep their value. So does
+/// VBAT where a 1 is written to it; a 0 clears it and both time-stamps.
 fn write_register(device: &mut Device, register: usize, byte: u8) {
     let mut mask = WRITABLE[register];
     if register == DAY {

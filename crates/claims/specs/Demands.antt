@@ -1,5 +1,6 @@
--- The three demands on the copy, and what the change requests promise, as one statement. Each part is a claim over definitions that stand elsewhere, or a function's contract as the checker
--- states it; nothing of the chip is defined here. 'Proved' means: equal to the outline's rules, as docs/RULES.md tells them; not: equal to silicon.
+-- The three demands on the copy, and what the change requests promise, as one statement. Each part is a claim over definitions that stand elsewhere, or a
+-- function's contract as the checker states it; nothing of the chip is defined here. 'Proved' means: equal to the outline's rules as the requests amend
+-- them, and as docs/RULES.md tells them; not: equal to silicon.
 -- Assumes nothing.
 use Prim.Native.Nat.{ℕ}
 use mathlib.Core.Path.{_≡_}

@@ -47,7 +47,7 @@ unfoldable pub drivenAll : List ℕ → List Reply
 drivenAll [] = []
 drivenAll (b ∷ bs) = Driven b ∷ drivenAll bs
 
--- a chip that holds something everywhere, with ST and VBATEN set and OSCON on
+-- a chip that holds something everywhere but in the time-stamps, with ST and VBATEN set and OSCON on
 abbrev pub busyRegs : List ℕ
 busyRegs =
     0x12 ∷ 0xb4 ∷ 0x56 ∷ 0x98 ∷ 0x0a ∷ 0x21 ∷ 0x09 ∷ 0x25 ∷ 0xc7 ∷ 0x33 ∷ 0xa5 ∷ 0x44 ∷ 0x01 ∷ 0x02 ∷ 0x03 ∷ 0x74

@@ -1,5 +1,5 @@
--- Closed witnesses of the time-stamps, on records that are written out, through `performed`: the numbers worked by hand from the request and the sheet's
--- map.
+-- Closed witnesses of the time-stamps, on records that are written out, through `performed`: the numbers worked by hand from the paper and
+-- the sheet's map.
 -- Assumes nothing.
 use Prim.Native.Nat.{ℕ}
 use mathlib.Core.Path.{_≡_, refl}
@@ -65,7 +65,7 @@ dayAndStamps w = getD (w .device .regs) 0x04 0 ∷ drop 24 (w .device .regs)
 abbrev outage : ℕ → List Input
 outage n = does Cut 0 ∷ does Wait n ∷ does Up 0 ∷ []
 
--- the chip that holds something everywhere, with VBAT set; and its registers after a power failure, VBAT clear before it
+-- that chip with VBAT set; and its registers after a power failure that finds VBAT clear
 abbrev failedBefore : World
 failedBefore = scene (set busyRegs 0x04 0x1a) (counts 5 32 6 7 8)
 

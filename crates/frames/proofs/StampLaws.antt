@@ -1,5 +1,5 @@
--- A byte of a READ answers a time-stamp as it is stored. What a byte does to the time-stamps and to VBAT: in a WRITE that stands at 04h a 0 for VBAT clears all three and a 1 leaves VBAT what it was; any
--- other byte leaves all three.
+-- A byte of a READ answers a time-stamp as it is stored. What a byte does to the time-stamps and to VBAT: in a WRITE that stands at 04h a 0
+-- for VBAT clears all three and a 1 leaves VBAT what it was; any other byte leaves all three.
 -- Assumes nothing.
 use mathlib.Core.Path.{_≡_, refl, ap, _∙_}
 use mathlib.Core.Bool.{Bool, true, false}

@@ -55,10 +55,11 @@ pub first-bit : (m : ℕ) → m < 256 → m % 2 ≡ flag (bit m 0)
 unfolding every
 first-bit m h = same-below (λ (n : ℕ). n % 2) (λ (n : ℕ). flag (bit n 0)) 256 refl m h
 
--- What holds of both ends of the clock holds of a cut; beside the clock a cut is what it stops.
+-- a cut on the battery
 abbrev batteryCut : ℕ → Device → Device
 batteryCut mask d = watchdogCut (withRegs (stoppedBy mask d) (failureStamped (d .regs)))
 
+-- What holds of both ends of the clock holds of a cut; beside the clock a cut is what it stops.
 pub cut-case :
     (P : Device → Type 0) (mask : ℕ) (d : Device) → (vbaten (d .regs) ≡ true → P (batteryCut mask d))
     → (vbaten (d .regs) ≡ false → P (forgotten (stoppedBy mask d))) → P (afterCut mask d)
@@ -177,7 +178,7 @@ module _ (mask : ℕ) (w : World) (runs : eqb (w .device .cycle .left) 0 ≡ fal
   unfolding cutCount cutWorld
   cut-counts-id a t o = rw (runs, t) (sym (store-changes (w .id) (pageOf (a .0)) (storedSet (w .device .load) mask) (w .device .load .bytes) 8 (o .0) (o .1)))
 
--- power up leaves a record in range
+-- The time-stamp of a return: inside its masks, and beside what the counts read.
 return-other : (mark : Bool) (regs : List ℕ) (k : ℕ) → k < powerUpAt → getD (returnStamped mark regs) k 0 ≡ getD regs k 0
 return-other mark regs k h = pick-case (λ (l : List ℕ). getD l k 0 ≡ getD regs k 0) mark (stamped-other powerUpAt regs k (inl h)) refl
 
@@ -188,6 +189,7 @@ return-in boots mark d r =
     (pick-case AllInside mark (stamped-inside powerUpAt regs (omega arith) (omega arith) (r .inside)) (r .inside))
     (return-other mark regs watchdogAt (omega arith)) (return-other mark regs secondsAt (omega arith))
 
+-- power up leaves a record in range
 pub up-in-range : (part : ℕ) (d : Device) → InRange part d → InRange part (afterUp d)
 unfolding afterUp
 up-in-range part d r =

@@ -1,4 +1,4 @@
--- What a cut and an up do to the time-stamps, VBAT and the mark, in each of their cases. Of the registers' lengths only what is read is supposed.
+-- What a cut and an up do to the time-stamps, VBAT and the mark, in each of their cases. Where something is copied there are 32 registers.
 -- Assumes nothing.
 use Prim.Native.Nat.{ℕ, _<_, _≤_}
 use native.Mathlib.Omega.{arith}

@@ -1,5 +1,5 @@
--- A power cut, and power up, with their time-stamps. What a cut cycle stores, and how many bytes that is, are in Stored; what a time-stamp holds is
--- in Stamps.
+-- A power cut, and power up, with their time-stamps. What a cut cycle stores, and how many bytes that is, are in Stored, what a
+-- time-stamp holds in Stamps.
 -- Assumes nothing.
 use Prim.Native.Nat.{ℕ, _%_}
 use mathlib.Core.Bool.{Bool, true, false, not, _&&_}
@@ -34,7 +34,7 @@ failureStamped regs = pick (takesStamp regs) (withVbat (stamped powerDownAt regs
 abbrev pub forgotten : Device → Device
 forgotten d = withCounters (withSram (withRegs d freshRegs) freshSram) freshCounters
 
--- P9, P10. VBATEN decides which.
+-- P9, P10, P13. VBATEN decides which.
 abbrev pub clockCut : Device → Device
 clockCut d = pick (vbaten (d .regs)) (watchdogCut (withRegs d (failureStamped (d .regs)))) (forgotten d)
 

@@ -25,7 +25,7 @@ fn takes_stamp(regs: [u8; 32]) -> bool
     ensures { λ r. ⌜ r ≡ takesStamp regs ⌝ }
 {
     let enabled = registers::battery_enabled(regs);
-    let held = registers::failure_held(regs);
+    let held = registers::vbat_set(regs);
     enabled & !held
 }
 

@@ -1,5 +1,5 @@
--- Time-stamps of a power failure, as registers: how the time is copied into one, how both are cleared, how VBAT is set and cleared, and what a time-stamp
--- shows. Not when.
+-- Time-stamps of a power failure, as registers: how the time is copied into one, how both are cleared, how VBAT is set and cleared, and
+-- what a time-stamp shows. Not when.
 -- Assumes nothing.
 use Prim.Native.Nat.{ℕ, _+_, _*_, _/_, _%_, _<_, _≤_}
 use mathlib.Core.Path.{_≡_}
@@ -49,8 +49,8 @@ NoStamps regs = (k : ℕ) → powerDownAt ≤ k → k < 32 → getD regs k 0 ≡
 abbrev pub SameStamps : List ℕ → List ℕ → Type 0
 SameStamps regs regs′ = (k : ℕ) → powerDownAt ≤ k → getD regs′ k 0 ≡ getD regs k 0
 
--- P12. The time-stamp from a shows the time of other registers, in words apart from the copy: each of its fields is where the sheet's map has it, and no
--- bit beside them is set.
+-- P12. The time-stamp from a shows the time of other registers, in words apart from the copy: each of its fields is where the sheet's map
+-- has it, and CALSGN is not among them.
 pub record Shows (a : ℕ) (regs time : List ℕ) : Type 0 where
   pub minutes : getD regs a 0 ≡ getD time 0x02 0
   pub hours : getD regs (a + 1) 0 ≡ getD time 0x03 0 % 128

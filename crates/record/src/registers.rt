@@ -172,8 +172,8 @@ pub fn battery_enabled(regs: [u8; 32]) -> bool
     regs[DAY] / VBATEN % 2 == 1
 }
 
-// VBAT is set: power failed, and the battery took over.
-pub fn failure_held(regs: [u8; 32]) -> bool
+// VBAT is set.
+pub fn vbat_set(regs: [u8; 32]) -> bool
     ensures { λ r. ⌜ r ≡ vbat regs ⌝ }
 {
     regs[DAY] / VBAT % 2 == 1

@@ -32,7 +32,7 @@ fn delay_after(v: u8) -> u32
 fn day_written(vbat: bool, regs: [u8; 32]) -> [u8; 32]
     ensures { λ r. ⌜ r ≡ dayWritten vbat regs ⌝ }
 {
-    let written = registers::failure_held(regs);
+    let written = registers::vbat_set(regs);
     if written {
         if vbat {
             return regs;
@@ -89,7 +89,7 @@ fn write_register(boots: bool, d: Device, at: ClockAddress, v: u8) -> Device
     ensures { λ r. ⌜ r ≡ writeRegister boots d (at .0) v ⌝ }
 {
     let i = at.0 as usize;
-    let vbat = registers::failure_held(d.regs);
+    let vbat = registers::vbat_set(d.regs);
     let stored = under_mask(WRITABLE[i], d.regs[i], v);
     let mut next = d;
     next.regs[i] = stored;

@@ -5,7 +5,7 @@ use Rattle.registers.proofs.write.write_register.Statement.{statement}
 use Rattle.registers.proofs.write.write_register.Tie as tie
 
 returns : tie.Need-returns
-returns c = simp (c .after-write .ensures, c .before .under-mask .ensures, c .before .before .before .failure-held .ensures)
+returns c = simp (c .after-write .ensures, c .before .under-mask .ensures, c .before .before .before .vbat-set .ensures)
 
 pub write-register-spec : {M : Type 1} → statement M
 write-register-spec =
