@@ -5,7 +5,7 @@ use mathlib.Core.Path.{_≡_, refl, ap, _∙_}
 use mathlib.Core.Bool.{Bool, true, false}
 use mathlib.Core.Logic.{_≢_}
 use mathlib.Core.List.{List}
-use Prim.Native.Nat.{ℕ, _<_, _≤_}
+use Prim.Native.Nat.{ℕ, _%_, _<_, _≤_}
 use lib.ListN.{length, getD}
 use Rattle.base.specs.Words.{bit}
 use Rattle.record.specs.declared.Device.{Device}
@@ -18,7 +18,7 @@ use Rattle.record.specs.Registers.{vbat, dayAt, powerDownAt}
 use Rattle.record.specs.Stamps.{toDay, NoStamps, SameStamps}
 use Rattle.refusals.proofs.KeepLaws.{AllInside}
 use Rattle.registers.specs.Write.{writeClock}
-use Rattle.registers.proofs.StampLaws.{read-stamp, write-clears, write-leaves-vbat, write-other-vbat, write-stamps}
+use Rattle.registers.proofs.StampLaws.{read-stamp, write-stores, write-clears, write-leaves-vbat, write-other-vbat, write-stamps}
 use Rattle.frames.specs.Frame.{replyAt, nextReply, writtenAt, afterByte}
 use Rattle.frames.proofs.FrameLaws.{written-when}
 
@@ -41,6 +41,9 @@ module _ (boots : Bool) (top v : ℕ) (d : Device) (l : length (d .regs) ≡ 32)
       d .frame .stage ≡ toDay → bit v 4 ≡ false
       → (vbat (afterByte boots top v d .regs) ≡ false) × NoStamps (afterByte boots top v d .regs)
   byte-clears e z = rw (at-write e) (write-clears boots d (record { 0 = dayAt }) v l refl z)
+
+  pub byte-stores : d .frame .stage ≡ toDay → getD (afterByte boots top v d .regs) dayAt 0 % 16 ≡ v % 16
+  byte-stores e = rw (at-write e) (write-stores boots d (record { 0 = dayAt }) v l refl)
 
   pub byte-leaves-vbat : d .frame .stage ≡ toDay → bit v 4 ≡ true → vbat (afterByte boots top v d .regs) ≡ vbat (d .regs)
   byte-leaves-vbat e o = rw (at-write e) (write-leaves-vbat boots d (record { 0 = dayAt }) v l refl o)

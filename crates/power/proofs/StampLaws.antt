@@ -3,7 +3,7 @@
 use Prim.Native.Nat.{ℕ, _<_, _≤_}
 use native.Mathlib.Omega.{arith}
 use mathlib.Core.Path.{_≡_, refl, sym, ap, subst, _∙_}
-use mathlib.Core.Bool.{true, false, or-true}
+use mathlib.Core.Bool.{true, false}
 use mathlib.Core.Logic.{inl, inr, _≢_}
 use mathlib.Core.List.{List}
 use lib.ListN.{length, getD}
@@ -11,12 +11,11 @@ use lib.Seq.{getD-set-same, getD-set-other}
 use Rattle.base.specs.Words.{every, bit}
 use Rattle.base.proofs.Tests.{pick-when, true-false, yes, no}
 use Rattle.base.proofs.Every.{same-from}
-use Rattle.base.proofs.BitLaws.{or-bit}
 use Rattle.record.specs.declared.Device.{Device}
 use Rattle.record.specs.Fresh.{freshRegs}
 use Rattle.record.specs.Registers.{vbaten, vbat, dayAt, watchdogAt, powerDownAt, powerUpAt}
-use Rattle.record.specs.Stamps.{stamped, withVbat, NoStamps, SameStamps, Shows}
-use Rattle.record.proofs.StampLaws.{stamped-other, stamped-length, stamped-shows, shows-kept}
+use Rattle.record.specs.Stamps.{stamped, NoStamps, SameStamps, Shows}
+use Rattle.record.proofs.StampLaws.{with-vbat, stamped-other, stamped-length, stamped-shows, shows-kept}
 use Rattle.power.specs.Power.{failureStamped, takesStamp, afterCut, afterUp}
 use Rattle.power.proofs.PowerLaws.{cut-case, cut-beside}
 
@@ -31,9 +30,6 @@ pub cut-mark : (mask : ℕ) (d : Device) → afterCut mask d .mark ≡ takesStam
 cut-mark mask d = cut-beside mask d .mark
 
 -- VBAT is set where it was not, and beside it nothing but the time-stamp changes
-with-vbat : (regs : List ℕ) → dayAt < length regs → vbat (withVbat regs) ≡ true
-with-vbat regs l = ap (λ (n : ℕ). bit n 4) (getD-set-same regs dayAt _ 0 l) ∙ or-bit (getD regs dayAt 0) 0x10 4 ∙ or-true (bit (getD regs dayAt 0) 4)
-
 failure-vbat : (regs : List ℕ) → takesStamp regs ≡ true → dayAt < length regs → vbat (failureStamped regs) ≡ true
 failure-vbat regs t l =
     pick-when (λ (x : List ℕ). vbat x ≡ true) (takesStamp regs)

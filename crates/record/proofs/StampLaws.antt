@@ -1,9 +1,11 @@
--- Laws of the time-stamps as registers: their masks, what a copied one shows, what it and the clearing leave alone, and that both leave as many registers.
+-- Laws of the time-stamps as registers: their masks, VBAT, what a copied one shows, what it and the clearing leave alone, and that both leave as many
+-- registers.
 -- Assumes nothing.
 use Prim.Native.Nat.{ℕ, zero, suc, _+_, _/_, _%_, _<_, _≤_}
 use native.Mathlib.Nat.{suc-inj}
 use native.Mathlib.Omega.{arith}
 use mathlib.Core.Path.{_≡_, refl, ap, _∙_}
+use mathlib.Core.Bool.{true, false, or-true, and-false}
 use mathlib.Core.Logic.{_⊎_, inl, _≢_, ⊎-elim}
 use mathlib.Core.List.{List, [], _∷_}
 use borrow.Author.Tests.{ltb-true, ltb-false}
@@ -11,11 +13,12 @@ use lib.Dec.{ltb}
 use lib.ListN.{length, getD, set, length-set}
 use lib.Seq.{getD-set-same, getD-set-other}
 use Rattle.base.proofs.StoreLaws.{set-each}
-use Rattle.base.specs.Words.{every}
+use Rattle.base.specs.Words.{bit, every}
+use Rattle.base.proofs.BitLaws.{and-bit, or-bit}
 use Rattle.base.proofs.Every.{same-below, same-from}
 use Rattle.base.proofs.Tests.{by-cases}
-use Rattle.record.specs.Registers.{minutesAt, dateAt, powerDownAt, powerUpAt, writable, kept}
-use Rattle.record.specs.Stamps.{stampAt, stampHours, stampMonth, stamped, unstamped, NoStamps, Shows}
+use Rattle.record.specs.Registers.{vbat, minutesAt, dayAt, dateAt, powerDownAt, powerUpAt, writable, kept}
+use Rattle.record.specs.Stamps.{stampAt, stampHours, stampMonth, stamped, unstamped, withVbat, withoutVbat, NoStamps, Shows}
 
 -- The bits that a register may hold: below the time-stamps those that a WRITE may change, of a time-stamp all.
 pub same-masks : (k : ℕ) → k < powerDownAt → getD writable k 0 ≡ getD kept k 0
@@ -25,6 +28,13 @@ same-masks k h = same-below (λ (n : ℕ). getD writable n 0) (λ (n : ℕ). get
 pub stamp-mask : (k : ℕ) → powerDownAt ≤ k → k < 32 → getD kept k 0 ≡ 0xff
 unfolding every
 stamp-mask k l h = same-from (λ (n : ℕ). getD kept n 0) 0xff powerDownAt 8 refl k l (omega arith)
+
+-- VBAT set, and cleared
+pub with-vbat : (regs : List ℕ) → dayAt < length regs → vbat (withVbat regs) ≡ true
+with-vbat regs l = ap (λ (n : ℕ). bit n 4) (getD-set-same regs dayAt _ 0 l) ∙ or-bit (getD regs dayAt 0) 0x10 4 ∙ or-true (bit (getD regs dayAt 0) 4)
+
+pub without-vbat : (regs : List ℕ) → dayAt < length regs → vbat (withoutVbat regs) ≡ false
+without-vbat regs l = ap (λ (n : ℕ). bit n 4) (getD-set-same regs dayAt _ 0 l) ∙ and-bit (getD regs dayAt 0) 0xef 4 ∙ and-false (bit (getD regs dayAt 0) 4)
 
 -- What holds of each register and of each new one at its place, holds of each after a time-stamp is put there.
 module _ (P : ℕ → ℕ → Type 0) (a : ℕ) where

@@ -2,13 +2,13 @@
 -- time-stamp; a 1 leaves VBAT what it was, and no other register has to do with it.
 -- Assumes nothing.
 use mathlib.Core.Path.{_≡_, refl, sym, ap, subst, _∙_}
-use mathlib.Core.Bool.{Bool, true, false, _&&_, _||_, and-false}
+use mathlib.Core.Bool.{Bool, true, false, _&&_, _||_}
 use mathlib.Core.List.{List}
 use mathlib.Core.Logic.{_≢_}
-use Prim.Native.Nat.{ℕ, _<_, _≤_}
+use Prim.Native.Nat.{ℕ, _%_, _<_, _≤_}
 use native.Mathlib.Omega.{arith}
 use borrow.Author.Tests.{lt-ltb, ne-eqb}
-use lib.Bits.{bitAnd, and-zero-r, or-zero-r}
+use lib.Bits.{bitAnd, bitOr, and-zero-r, or-zero-l, or-zero-r, and-mask, and-mod, or-mod}
 use lib.ListN.{length, getD, set, length-set}
 use lib.Seq.{getD-set-same, getD-set-other}
 use Rattle.base.specs.Words.{bit, every}
@@ -21,7 +21,7 @@ use Rattle.record.specs.declared.ClockAddress.{ClockAddress}
 use Rattle.record.specs.Registers.{vbat, dayAt, monthAt, alarm0HoursAt, alarm1HoursAt, powerDownAt, writable}
 use Rattle.record.specs.Setters.{withRegs}
 use Rattle.record.specs.Stamps.{unstamped, withoutVbat, NoStamps, SameStamps}
-use Rattle.record.proofs.StampLaws.{unstamped-other, unstamped-zero}
+use Rattle.record.proofs.StampLaws.{without-vbat, unstamped-other, unstamped-zero}
 use Rattle.refusals.proofs.KeepLaws.{AllInside, inside-byte}
 use Rattle.registers.specs.Read.{readClock}
 use Rattle.registers.specs.Write.{dayWritten, afterWrite, underMask, writeClock}
@@ -69,15 +69,26 @@ dayStored regs v = set regs dayAt (underMask 0x1f (getD regs dayAt 0) v)
 stored-vbat : (regs : List ℕ) (v : ℕ) → dayAt < length regs → vbat (dayStored regs v) ≡ bit v 4
 stored-vbat regs v l = ap (λ (n : ℕ). bit n 4) (getD-set-same regs dayAt _ 0 l) ∙ under-vbat (getD regs dayAt 0) v
 
-without : (regs : List ℕ) → dayAt < length regs → vbat (withoutVbat regs) ≡ false
-without regs l =
-    ap (λ (n : ℕ). bit n 4) (getD-set-same regs dayAt _ 0 l) ∙ and-bit (getD regs dayAt 0) 0xef 4 ∙ and-false (bit (getD regs dayAt 0) 4)
+-- The bits below VBAT are the byte's.
+under-low : (old v : ℕ) → underMask 0x1f old v % 16 ≡ v % 16
+under-low old v =
+    let a : bitAnd old 0xe0 % 16 ≡ 0 = and-mod old 0xe0 4 ∙ and-zero-r (old % 16) in
+    let b : bitAnd v 0x1f % 16 ≡ v % 16 = and-mod v 0x1f 4 ∙ and-mask (v % 16) 4 ∙ omega arith in
+    or-mod (bitAnd old 0xe0) (bitAnd v 0x1f) 4 ∙ (λ i. bitOr (a i) (b i)) ∙ or-zero-l (v % 16)
+
+day-low : (before : Bool) (regs : List ℕ) → dayAt < length regs → getD (dayWritten before regs) dayAt 0 % 16 ≡ getD regs dayAt 0 % 16
+day-low before regs l =
+    let x : ℕ = getD regs dayAt 0 in
+    let P : List ℕ → Type 0 = λ r. getD r dayAt 0 % 16 ≡ x % 16 in
+    pick-case P (vbat regs)
+    (pick-case P before refl (ap (λ (n : ℕ). n % 16) (getD-set-same regs dayAt _ 0 l) ∙ and-mod x 0xef 4 ∙ and-mask (x % 16) 4 ∙ omega arith))
+    (ap (λ (n : ℕ). n % 16) (unstamped-other regs dayAt (omega arith)))
 
 -- VBAT written 1 is what it was
 day-vbat : (before : Bool) (regs : List ℕ) → dayAt < length regs → vbat regs ≡ true → vbat (dayWritten before regs) ≡ before
 day-vbat before regs l o =
     let P : List ℕ → Type 0 = λ x. vbat x ≡ before in
-    pick-when P (vbat regs) (λ t. pick-when P before (λ p. o ∙ sym p) (λ p. without regs l ∙ sym p)) (λ f. absurd (true-false o f))
+    pick-when P (vbat regs) (λ t. pick-when P before (λ p. o ∙ sym p) (λ p. without-vbat regs l ∙ sym p)) (λ f. absurd (true-false o f))
 
 -- what WRITE leaves at 04h
 write-day :
@@ -89,6 +100,15 @@ write-day boots d a v e = ap (λ (b : ClockAddress). writeClock boots d b v .reg
 module _ (boots : Bool) (d : Device) (a : ClockAddress) (v : ℕ) (l : length (d .regs) ≡ 32) where
   there : dayAt < length (d .regs)
   there = omega (arith, l)
+
+  still-there : dayAt < length (dayStored (d .regs) v)
+  still-there = omega (arith, there, length-set (d .regs) dayAt (underMask 0x1f (getD (d .regs) dayAt 0) v))
+
+  -- the bits below VBAT, whatever is written to it
+  pub write-stores : a .0 ≡ dayAt → getD (writeClock boots d a v .regs) dayAt 0 % 16 ≡ v % 16
+  write-stores e =
+      ap (λ (x : List ℕ). getD x dayAt 0 % 16) (write-day boots d a v e) ∙ day-low (vbat (d .regs)) (dayStored (d .regs) v) still-there
+      ∙ ap (λ (n : ℕ). n % 16) (getD-set-same (d .regs) dayAt _ 0 there) ∙ under-low (getD (d .regs) dayAt 0) v
 
   -- a 0 for VBAT
   pub write-clears :
@@ -106,8 +126,7 @@ module _ (boots : Bool) (d : Device) (a : ClockAddress) (v : ℕ) (l : length (d
   pub write-leaves-vbat : a .0 ≡ dayAt → bit v 4 ≡ true → vbat (writeClock boots d a v .regs) ≡ vbat (d .regs)
   write-leaves-vbat e o =
       ap vbat (write-day boots d a v e)
-      ∙ day-vbat (vbat (d .regs)) (dayStored (d .regs) v)
-      (omega (arith, there, length-set (d .regs) dayAt (underMask 0x1f (getD (d .regs) dayAt 0) v))) (stored-vbat (d .regs) v there ∙ o)
+      ∙ day-vbat (vbat (d .regs)) (dayStored (d .regs) v) still-there (stored-vbat (d .regs) v there ∙ o)
 
   -- another register, SRAM or what lies above it
   pub write-other-vbat : a .0 ≢ dayAt → vbat (writeClock boots d a v .regs) ≡ vbat (d .regs)

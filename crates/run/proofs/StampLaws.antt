@@ -37,7 +37,7 @@ use Rattle.ticks.proofs.StampLaws.{StampsStay, stay-then, wait-stamps}
 use Rattle.ticks.proofs.WaitLaws.{wait-device, wait-spent}
 use Rattle.frames.specs.Frame.{afterSelect, afterByte}
 use Rattle.frames.proofs.FrameLaws.{written-beside}
-use Rattle.frames.proofs.StampLaws.{stamp-reply, byte-clears, byte-leaves-vbat, byte-other-vbat, byte-stamps}
+use Rattle.frames.proofs.StampLaws.{stamp-reply, byte-stores, byte-clears, byte-leaves-vbat, byte-other-vbat, byte-stamps}
 use Rattle.ends.specs.End.{afterEnd}
 use Rattle.power.specs.Power.{afterCut, cutWorld, afterUp}
 use Rattle.power.proofs.PowerLaws.{cut-device, cut-beside}
@@ -46,7 +46,7 @@ use Rattle.acts.specs.Act.{Outcome, accepted, refusalIn, performed}
 use Rattle.acts.proofs.OutcomeLaws.{answered-by-table, by-acceptance, by-refusal}
 use Rattle.acts.proofs.ValidLaws.{Valid, performed-valid, fresh-valid}
 use Rattle.run.specs.Claim.{Input, ourChip, worldAfter}
-use Rattle.run.specs.Stamps.{StampAct, fails, forgets, returns, clears, VbatAct, sets, loses, resets, NoUp, powerOff, powerBack, PowerFailure, TimeStamps}
+use Rattle.run.specs.Stamps.{StampAct, fails, forgets, returns, clears, NoUp, powerOff, powerBack, PowerFailure, TimeStamps}
 use Rattle.run.proofs.RunLaws.{reached-in-range}
 
 -- whether a stage is a WRITE whose next byte goes to 04h
@@ -130,12 +130,12 @@ module _ (part arg : ℕ) (w : World) (z : Shaped part w) where
 
   vbat-of :
       (act : Act) → refusalIn part act arg w ≡ 0
-      → vbat (accepted part arg w act .after .device .regs) ≢ vbat (w .device .regs) → VbatAct act arg (w .device)
+      → vbat (accepted part arg w act .after .device .regs) ≢ vbat (w .device .regs) → StampAct act arg (w .device) 0x18
   unfolding afterSelect afterEnd
   vbat-of Select e n = absurd (n refl)
   vbat-of Byte e n =
       ⊎-elim
-      (λ s. by-cases (bit arg 4) (λ t. absurd (n (byte-leaves-vbat (bootsOf part) (topOf part) arg (w .device) size s t))) (λ f. resets refl s f))
+      (λ s. by-cases (bit arg 4) (λ t. absurd (n (byte-leaves-vbat (bootsOf part) (topOf part) arg (w .device) size s t))) (λ f. clears refl s f))
       (λ s. absurd (n (byte-other-vbat (bootsOf part) (topOf part) arg (w .device) size s)))
       (day-stage (w .device .frame .stage))
   vbat-of End e n = absurd (n refl)
@@ -145,8 +145,8 @@ module _ (part arg : ℕ) (w : World) (z : Shaped part w) where
       (λ t.
       by-cases (vbat (w .device .regs))
       (λ v. absurd (n (cut-is (λ (x : Device). vbat (x .regs) ≡ vbat (w .device .regs)) arg w (cut-held arg (w .device) t v .vbat ∙ sym v))))
-      (λ v. sets refl t v))
-      (λ f. loses refl f)
+      (λ v. fails refl t v (omega arith)))
+      (λ f. forgets refl f)
   vbat-of Up e n =
       by-cases (w .device .mark)
       (λ t. absurd (n (ap (λ (x : ℕ). bit x 4) (up-stamps (w .device) t size .others dayAt (omega arith)))))
@@ -194,38 +194,25 @@ record Off (part : ℕ) (c v : World) : Type 0 where
 off-act :
     (part : ℕ) (act : Act) (arg : ℕ) (c v : World) → (act ≡ Up → arg ≢ 0) → Off part c v → Off part c (performed part act arg v .after)
 off-act part act arg c v n o =
-    record {
-      valid = performed-valid part act arg v (o .valid);
-      power = performed-case (λ (x : World). x .device .power ≡ false) part act arg v (o .power) (λ e. still act n (table.accepted part act arg (v .device) _ _ e));
-      stay = performed-case (λ (x : World). StampsStay (c .device) (x .device)) part act arg v (o .stay) (λ e. stays act n (table.accepted part act arg (v .device) _ _ e));
-    }
+    let k = performed-case Kept part act arg v (o .power, o .stay) (λ e. kept act n (table.accepted part act arg (v .device) _ _ e)) in
+    record { valid = performed-valid part act arg v (o .valid); power = k .0; stay = k .1 }
   where
+    Kept : World → Type 0
+    Kept x = (x .device .power ≡ false) × StampsStay (c .device) (x .device)
+
     -- these act with power on alone
     never : {A : Type 0} → not (v .device .power) ≡ false → A
     never p = absurd (true-false (not-false (v .device .power) p) (o .power))
 
-    no-up : {A : Type 0} → ((Up ≡ Up) → arg ≢ 0) → not (eqb arg 0) ≡ false → A
-    no-up m f = absurd (m refl (eqb-true arg 0 (not-false (eqb arg 0) f)))
-
-    still :
+    kept :
         (act : Act) → (act ≡ Up → arg ≢ 0) → table.Accepted part act arg (v .device) (length (v .eeprom)) (length (v .id))
-        → accepted part arg v act .after .device .power ≡ false
-    still Select m a = never (a .power)
-    still Byte m a = never (a .power)
-    still End m a = never (a .power)
-    still Wait m a = wait-spent part (bootsOf part) arg v (o .valid .range) .still .power ∙ o .power
-    still Cut m a = never (a .power)
-    still Up m a = no-up m (a .arg)
-
-    stays :
-        (act : Act) → (act ≡ Up → arg ≢ 0) → table.Accepted part act arg (v .device) (length (v .eeprom)) (length (v .id))
-        → StampsStay (c .device) (accepted part arg v act .after .device)
-    stays Select m a = never (a .power)
-    stays Byte m a = never (a .power)
-    stays End m a = never (a .power)
-    stays Wait m a = stay-then (o .stay) (wait-stays part arg v)
-    stays Cut m a = never (a .power)
-    stays Up m a = no-up m (a .arg)
+        → Kept (accepted part arg v act .after)
+    kept Select m a = never (a .power)
+    kept Byte m a = never (a .power)
+    kept End m a = never (a .power)
+    kept Wait m a = (wait-spent part (bootsOf part) arg v (o .valid .range) .still .power ∙ o .power, stay-then (o .stay) (wait-stays part arg v))
+    kept Cut m a = never (a .power)
+    kept Up m a = absurd (m refl (eqb-true arg 0 (not-false (eqb arg 0) (a .arg))))
 
 off-acts : (part : ℕ) (c : World) (xs : List Input) (v : World) → NoUp xs → Off part c v → Off part c (worldAfter ourChip part xs v)
 unfolding worldAfter ourChip NoUp
@@ -437,6 +424,8 @@ time-stamps =
             byte-stamps (bootsOf part) (topOf part) arg (w .device) (z .sized .regs) (r .clock .inside) (λ q. true-false b (q .1)),
             byte-leaves-vbat (bootsOf part) (topOf part) arg (w .device) (z .sized .regs) s b,
           );
+      stored =
+          λ part arg w z e s. rw (done-as part Byte arg w e) (byte-stores (bootsOf part) (topOf part) arg (w .device) (z .sized .regs) s);
       read =
           λ part arg w a e s l h. ap (λ (o : Outcome). o .reply) (done-as part Byte arg w e) ∙ stamp-reply (w .eeprom) (w .id) (w .device) a s l h;
       only =
@@ -445,7 +434,7 @@ time-stamps =
           (λ e n. stamps-of part arg w z act e k h n);
       onlyVbat =
           λ part act arg w z.
-          changed-by (λ (x : World). vbat (x .device .regs)) (VbatAct act arg (w .device)) part act arg w (λ e n. vbat-of part arg w z act e n);
+          changed-by (λ (x : World). vbat (x .device .regs)) (StampAct act arg (w .device) 0x18) part act arg w (λ e n. vbat-of part arg w z act e n);
       onlyMark =
           λ part act arg w.
           changed-by (λ (x : World). x .device .mark) ((act ≡ Cut) ⊎ (act ≡ Up)) part act arg w (λ e n. mark-of part arg w act n);

@@ -1,7 +1,7 @@
 -- What the time-stamps promise: of one act, of a power failure with all that may come in it, and of every run from fresh. `Shows` says what a
 -- time-stamp holds, in words apart from the copy.
 -- Assumes nothing.
-use Prim.Native.Nat.{ℕ, _<_, _≤_}
+use Prim.Native.Nat.{ℕ, _%_, _<_, _≤_}
 use mathlib.Core.Path.{_≡_}
 use mathlib.Core.Bool.{true, false, not, _&&_}
 use mathlib.Core.Logic.{_⊎_, _≢_}
@@ -32,12 +32,6 @@ pub data StampAct (act : Act) (arg : ℕ) (d : Device) (k : ℕ) : Type 0 where
   returns : act ≡ Up → d .mark ≡ true → 0x1c ≤ k → StampAct act arg d k
   -- a byte that writes VBAT 0
   clears : act ≡ Byte → d .frame .stage ≡ toDay → bit arg 4 ≡ false → StampAct act arg d k
-
--- and those that may change VBAT
-pub data VbatAct (act : Act) (arg : ℕ) (d : Device) : Type 0 where
-  sets : act ≡ Cut → vbaten (d .regs) ≡ true → vbat (d .regs) ≡ false → VbatAct act arg d
-  loses : act ≡ Cut → vbaten (d .regs) ≡ false → VbatAct act arg d
-  resets : act ≡ Byte → d .frame .stage ≡ toDay → bit arg 4 ≡ false → VbatAct act arg d
 
 -- no act of the list is an up that could be done
 unfoldable pub NoUp : List Input → Type 0
@@ -94,11 +88,15 @@ pub record TimeStamps : Type 0 where
       (part arg : ℕ) (w : World) → Shaped part w → performed part Byte arg w .number ≡ 0 → w .device .frame .stage ≡ toDay → bit arg 4 ≡ true
       → SameStamps (w .device .regs) (performed part Byte arg w .after .device .regs)
       × (vbat (performed part Byte arg w .after .device .regs) ≡ vbat (w .device .regs))
+  -- in both the other bits of 04h are the byte's
+  pub stored :
+      (part arg : ℕ) (w : World) → Shaped part w → performed part Byte arg w .number ≡ 0 → w .device .frame .stage ≡ toDay
+      → getD (performed part Byte arg w .after .device .regs) 0x04 0 % 16 ≡ arg % 16
   -- C5. a byte of a READ that stands at one of the eight answers it as it is
   pub read :
       (part arg : ℕ) (w : World) (a : ClockAddress) → performed part Byte arg w .number ≡ 0 → w .device .frame .stage ≡ Reading (ClockAt a)
       → 0x18 ≤ a .0 → a .0 < 0x20 → performed part Byte arg w .reply ≡ Driven (getD (w .device .regs) (a .0) 0)
-  -- P17. nothing else changes a time-stamp, VBAT or the mark: no tick, no other act, no refused one
+  -- P17. nothing else changes a time-stamp, VBAT or the mark: no tick, no other act, no refused one; VBAT goes with 18h
   pub only :
       (part : ℕ) (act : Act) (arg : ℕ) (w : World) (k : ℕ) → Shaped part w → 0x18 ≤ k
       → getD (performed part act arg w .after .device .regs) k 0 ≢ getD (w .device .regs) k 0
@@ -106,7 +104,7 @@ pub record TimeStamps : Type 0 where
   pub onlyVbat :
       (part : ℕ) (act : Act) (arg : ℕ) (w : World) → Shaped part w
       → vbat (performed part act arg w .after .device .regs) ≢ vbat (w .device .regs)
-      → (performed part act arg w .number ≡ 0) × VbatAct act arg (w .device)
+      → (performed part act arg w .number ≡ 0) × StampAct act arg (w .device) 0x18
   pub onlyMark :
       (part : ℕ) (act : Act) (arg : ℕ) (w : World) → performed part act arg w .after .device .mark ≢ w .device .mark
       → (performed part act arg w .number ≡ 0) × ((act ≡ Cut) ⊎ (act ≡ Up))
