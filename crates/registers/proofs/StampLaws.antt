@@ -69,6 +69,12 @@ dayStored regs v = set regs dayAt (underMask 0x1f (getD regs dayAt 0) v)
 stored-vbat : (regs : List ℕ) (v : ℕ) → dayAt < length regs → vbat (dayStored regs v) ≡ bit v 4
 stored-vbat regs v l = ap (λ (n : ℕ). bit n 4) (getD-set-same regs dayAt _ 0 l) ∙ under-vbat (getD regs dayAt 0) v
 
+-- VBAT written 1 is what it was
+day-vbat : (before : Bool) (regs : List ℕ) → dayAt < length regs → vbat regs ≡ true → vbat (dayWritten before regs) ≡ before
+day-vbat before regs l o =
+    let P : List ℕ → Type 0 = λ x. vbat x ≡ before in
+    pick-when P (vbat regs) (λ t. pick-when P before (λ p. o ∙ sym p) (λ p. without-vbat regs l ∙ sym p)) (λ f. absurd (true-false o f))
+
 -- The bits below VBAT are the byte's.
 under-low : (old v : ℕ) → underMask 0x1f old v % 16 ≡ v % 16
 under-low old v =
@@ -83,12 +89,6 @@ day-low before regs l =
     pick-case P (vbat regs)
     (pick-case P before refl (ap (λ (n : ℕ). n % 16) (getD-set-same regs dayAt _ 0 l) ∙ and-mod x 0xef 4 ∙ and-mask (x % 16) 4 ∙ omega arith))
     (ap (λ (n : ℕ). n % 16) (unstamped-other regs dayAt (omega arith)))
-
--- VBAT written 1 is what it was
-day-vbat : (before : Bool) (regs : List ℕ) → dayAt < length regs → vbat regs ≡ true → vbat (dayWritten before regs) ≡ before
-day-vbat before regs l o =
-    let P : List ℕ → Type 0 = λ x. vbat x ≡ before in
-    pick-when P (vbat regs) (λ t. pick-when P before (λ p. o ∙ sym p) (λ p. without-vbat regs l ∙ sym p)) (λ f. absurd (true-false o f))
 
 -- what WRITE leaves at 04h
 write-day :
