@@ -2,6 +2,7 @@
 -- Assumes nothing.
 use mathlib.Core.Path.{_≡_, refl, sym, ap, subst, _∙_}
 use mathlib.Core.Bool.{Bool, false, not}
+use mathlib.Core.Logic.{_≢_}
 use Prim.Native.Nat.{ℕ, _<_}
 use native.Mathlib.Omega.{arith}
 use borrow.Author.Tests.{eqb-true, eq-eqb, ne-eqb}
@@ -61,6 +62,24 @@ pub refused-same :
 refused-same part act arg w e =
     let t : eqb (refusalIn part act arg w) 0 ≡ false = ap (λ (k : ℕ). eqb k 0) (sym (answered-by-table part act arg w)) ∙ e in
     by-refusal part act arg w t ∙ ap (λ (k : ℕ). refused k w) (sym (answered-by-table part act arg w))
+
+-- What an act changes it changes as one that is done; a refused one changes nothing.
+pub changed-by :
+    {A : Type 0} (f : World → A) (Q : Type 0) (part : ℕ) (act : Act) (arg : ℕ) (w : World)
+    → (refusalIn part act arg w ≡ 0 → f (accepted part arg w act .after) ≢ f w → Q)
+    → f (performed part act arg w .after) ≢ f w → (performed part act arg w .number ≡ 0) × Q
+changed-by f Q part act arg w q n =
+    by-cases (eqb (refusalIn part act arg w) 0)
+    (λ t.
+    let e = eqb-true (refusalIn part act arg w) 0 t in (
+      answered-by-table part act arg w ∙ e,
+      q e (λ s. n (ap (λ (o : Outcome). f (o .after)) (by-acceptance part act arg w e) ∙ s)),
+    ))
+    (λ t. absurd (n (ap (λ (o : Outcome). f (o .after)) (by-refusal part act arg w t))))
+
+-- an act that is done, as the accepted one
+pub done-as : (part : ℕ) (act : Act) (arg : ℕ) (w : World) → performed part act arg w .number ≡ 0 → performed part act arg w ≡ accepted part arg w act
+done-as part act arg w e = by-acceptance part act arg w (sym (answered-by-table part act arg w) ∙ e)
 
 -- number 7 is the tape's: no act is answered with it
 last-below : (act : Act) (sel : Bool) → wrongSelect act sel < 7

@@ -1,13 +1,14 @@
 -- The three demands and the requests, proved by citing: the table's theorem and those of a tape's lines, the functions' proofs, demand 3, the law of every
--- feeding, the promise of the time-stamps.
+-- feeding, the promises of the time-stamps and of the latch.
 -- Assumes nothing.
 use mathlib.Core.Path.{sym, _∙_}
 use borrow.Author.Tests.{ne-eqb}
 use Rattle.refusals.proofs.TableLaws.{exactly}
 use Rattle.acts.proofs.OutcomeLaws.{answered-by-table, refused-same}
 use Rattle.run.proofs.DemandThree.{demand-three}
+use Rattle.run.proofs.LatchLaws.{latch}
 use Rattle.run.proofs.StampLaws.{time-stamps}
-use Rattle.run.proofs.WrongLaws.{enableless-fails, deaf-fails, empty-fails, maskless-fails, lockless-fails}
+use Rattle.run.proofs.WrongLaws.{enableless-fails, deaf-fails, empty-fails, maskless-fails, lockless-fails, lapsing-fails}
 use Rattle.lines.proofs.LineLaws.{asks-exactly}
 use Rattle.answers.proofs.AnswerLaws.{seven-exactly, refused-setup}
 use Rattle.feeding.proofs.FeedLaws.{any-feeding}
@@ -54,7 +55,8 @@ accountable =
       empty = empty-fails;
       maskless = maskless-fails;
       lockless = lockless-fails;
+      lapsing = lapsing-fails;
     }
 
 pub demands : Demands
-demands = record { total = total; exact = exact; accountable = accountable; timeStamps = time-stamps }
+demands = record { total = total; exact = exact; accountable = accountable; timeStamps = time-stamps; latch = latch }

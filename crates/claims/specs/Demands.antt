@@ -13,8 +13,9 @@ use Rattle.record.specs.World.{World}
 use Rattle.refusals.specs.Rows.{TableGives}
 use Rattle.acts.specs.Act.{performed, refused}
 use Rattle.run.specs.Claim.{ourChip, DemandThree}
+use Rattle.run.specs.Latch.{Latch}
 use Rattle.run.specs.Stamps.{TimeStamps}
-use Rattle.run.specs.Wrong.{enablelessChip, deafChip, emptyChip, masklessChip, locklessChip}
+use Rattle.run.specs.Wrong.{enablelessChip, deafChip, emptyChip, masklessChip, locklessChip, lapsingChip}
 use Rattle.lines.specs.declared.Name.{Name}
 use Rattle.lines.specs.Request.{requestOf, asked, unknownName, Spelled}
 use Rattle.answers.specs.Answer.{Setup, lineAnswer, SevenRow}
@@ -65,12 +66,13 @@ pub record Accountable : Type 0 where
   -- of every tape, fed in any way: what is written is its answers, it ends, and the ledger accounts for the memories, from the bytes of the tape and the
   -- bytes written
   pub tapes : AnyFeeding
-  -- the claim is no empty one: five wrong chips do not have it
+  -- the claim is no empty one: six wrong chips do not have it
   pub enableless : ¬ DemandThree enablelessChip
   pub deaf : ¬ DemandThree deafChip
   pub empty : ¬ DemandThree emptyChip
   pub maskless : ¬ DemandThree masklessChip
   pub lockless : ¬ DemandThree locklessChip
+  pub lapsing : ¬ DemandThree lapsingChip
 
 -- R12. The three together, and of each change request what it promises of every act and every run.
 pub record Demands : Type 2 where
@@ -79,3 +81,5 @@ pub record Demands : Type 2 where
   pub accountable : Accountable
   -- the time-stamps of a power failure
   pub timeStamps : TimeStamps
+  -- what sets the latch, and the whole list of what resets it
+  pub latch : Latch

@@ -33,6 +33,6 @@ countAfter k d = pick (clears Clrwdt k (d .frame .stage)) 0 (d .counters .watchd
 unfoldable pub afterEnd : ℕ → ℕ → Device → Device
 afterEnd top k d =
     withStage
-    (withLock (withWel (withCycle (withWatchdog (withSram d (sramAfter k d)) (countAfter k d)) (cycleAfter top k d)) (welAfter top k d))
+    (withLock (withWel (withCycle (withWatchdog (withSram d (sramAfter k d)) (countAfter k d)) (cycleAfter top k d)) (welAfter k (d .guard .wel) (d .frame .stage)))
     (lockAfter k (d .guard .lock) (d .frame .stage)))
     Idle

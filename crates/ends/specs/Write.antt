@@ -99,11 +99,7 @@ cycleAfter top k d =
 abbrev pub latches : Code → ℕ → Stage → Bool
 latches c k s = (isCode (codeAt s) c && atInstruction s) && eqb k 0
 
--- How WEL moves.
--- F19. EEWREN sets it, EEWRDI clears it.
--- F30. A write that had data and starts no cycle clears it.
-unfoldable pub welAfter : ℕ → ℕ → Device → Bool
-welAfter top k d =
-    pick (latches Eewren k (d .frame .stage)) true
-    (pick (latches Eewrdi k (d .frame .stage)) false
-    (pick (dataCame (d .load) (d .frame .stage) && not (carried top k d)) false (d .guard .wel)))
+-- F19. How WEL moves: EEWREN sets it, EEWRDI clears it.
+-- F30. Any other frame leaves it, a write too, whether it is carried or comes to nothing.
+unfoldable pub welAfter : ℕ → Bool → Stage → Bool
+welAfter k wel s = pick (latches Eewren k s) true (pick (latches Eewrdi k s) false wel)

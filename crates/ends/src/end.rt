@@ -49,11 +49,12 @@ pub fn after_end(top: EepromAddress, k: u8, d: Device) -> Device
     let before = d.frame;
     let stage = before.stage;
     let g = d.guard;
+    let old_wel = g.wel;
     let old_lock = g.lock;
     let protection = g.protection;
     let sram = sram_after(k, d);
     let count = count_after(k, d);
-    let wel = crate::write::wel_after(top, k, d);
+    let wel = crate::write::wel_after(k, old_wel, stage);
     let lock = crate::lock::lock_after(k, old_lock, stage);
     let cycle = crate::write::cycle_after(top, k, d);
     let guard = Guard {

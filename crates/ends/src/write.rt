@@ -162,13 +162,9 @@ fn latched_by(code: Code, k: u8, stage: Stage) -> bool
 }
 
 // How WEL moves.
-pub fn wel_after(top: EepromAddress, k: u8, d: Device) -> bool
-    ensures { λ r. ⌜ r ≡ welAfter (top .0) k d ⌝ }
+pub fn wel_after(k: u8, wel: bool, stage: Stage) -> bool
+    ensures { λ r. ⌜ r ≡ welAfter k wel stage ⌝ }
 {
-    let g = d.guard;
-    let load = d.load;
-    let frame = d.frame;
-    let stage = frame.stage;
     let set = latched_by(Code::Eewren, k, stage);
     if set {
         return true;
@@ -177,10 +173,5 @@ pub fn wel_after(top: EepromAddress, k: u8, d: Device) -> bool
     if cleared {
         return false;
     }
-    let came = data_came(load, stage);
-    let starts = is_carried(top, k, d);
-    if came & !starts {
-        return false;
-    }
-    g.wel
+    wel
 }

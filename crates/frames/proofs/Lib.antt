@@ -1,3 +1,4 @@
 pub mod FrameLaws
 pub mod StampLaws
 pub mod ReplyLaws
+pub mod AloneLaws

@@ -60,7 +60,7 @@ heardAt c code =
 abbrev pub addressed : ℕ → Bool
 addressed code = eqb code EEWRITE || eqb code IDWRITE
 
--- F30. The three writes.
+-- F23. The three writes.
 abbrev pub isWrite : ℕ → Bool
 isWrite code = addressed code || eqb code SRWRITE
 
@@ -160,13 +160,11 @@ cycleLength = 164
 unfoldable pub cycleOf : Frame → Cycle
 cycleOf f = record { kind = kindOf (f .code); page = f .page; loaded = f .loaded; left = cycleLength }
 
--- L11, F19, F30. WEL at the end of a heard frame, by whether a cycle starts: EEWREN sets it and EEWRDI clears it, each if it is
--- the frame's only byte, with no bit more; a write whose data start no cycle clears it.
-unfoldable pub welAfter : ℕ → Bool → Frame → Bool → Bool
-welAfter leftover starts f wel =
-    pick (eqb (f .code) EEWREN && exactly 1 leftover f) true
-    (pick (eqb (f .code) EEWRDI && exactly 1 leftover f) false
-    (pick (withData f && not starts) false wel))
+-- L11, F19, F30. WEL at the end of a heard frame: EEWREN sets it and EEWRDI clears it, each if it is the frame's only byte, with no
+-- bit more. A write does not move it, whatever becomes of it.
+unfoldable pub welAfter : ℕ → Frame → Bool → Bool
+welAfter leftover f wel =
+    pick (eqb (f .code) EEWREN && exactly 1 leftover f) true (pick (eqb (f .code) EEWRDI && exactly 1 leftover f) false wel)
 
 -- L11, F33, F34, F35, F36 (bench). The lock at the end of a heard frame. UNLOCK of two whole bytes puts it to its first step with
 -- 55h, whatever it was, and with AAh opens it from there. Every other UNLOCK closes it. EEWREN and SRREAD leave it; any other

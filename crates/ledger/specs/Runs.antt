@@ -1,10 +1,12 @@
--- Closed runs of the ledger from its start, worked by hand from the rules: the bytes or the BP that each leaves, under one statement.
+-- Closed runs of the ledger, from its start but for one, worked by hand from the rules: the bytes or the BP that each leaves, under one statement.
 -- They show that the ledger is not empty. They say nothing of a chip, and no rule stands here: codes are written as on the wire.
 -- Assumes nothing.
 use mathlib.Core.Path.{_≡_}
+use mathlib.Core.Bool.{true, false}
 use mathlib.Core.List.{List, [], _∷_, _++_}
 use Prim.Native.Nat.{ℕ}
 use Rattle.ledger.specs.State.{Act, select, byte, end, wait, cut, up, Step, Memory, eeprom, id, Entry, noByte, noCycle, start}
+use Rattle.ledger.specs.Setters.{withPower, withWel}
 use Rattle.ledger.specs.Frames.{firstByte, laterByte, carried, cycleOf, welAfter, lockAfter}
 use Rattle.ledger.specs.Bytes.{isLoaded, loadedByte, entriesUnder, entriesAfter, bpAfter, byteOf}
 use Rattle.ledger.specs.Steps.{refused, onSelect, onByte, onEnd, ticked, waited, finished, onWait, onCut, onUp, follow, ledgerRun}
@@ -92,10 +94,17 @@ ClosedRuns =
     × (eepromAfter 2 (ragged 3 (0x06 ∷ []) ++ write 0x00 (1 ∷ []) ++ idle) (0x00 ∷ []) ≡ 255 ∷ [])
     -- F19. EEWRDI takes the enable back.
     × (eepromAfter 2 (enable ++ frame (0x04 ∷ []) ++ write 0x00 (1 ∷ []) ++ idle) (0x00 ∷ []) ≡ 255 ∷ [])
-    -- F25, F30, E18. Seven bits more after the data: no cycle, and WEL is clear for the write that follows.
-    × (eepromAfter 2 (enable ++ ragged 7 (0x02 ∷ 0x00 ∷ 1 ∷ []) ++ write 0x01 (2 ∷ []) ++ idle) (0x00 ∷ 0x01 ∷ []) ≡ 255 ∷ 255 ∷ [])
-    -- F24, F30. An address and no data: no cycle, and WEL stays set for the write that follows.
+    -- F25, F30, E18. Seven bits more after the data: no cycle, and WEL stays set for the write that follows.
+    × (eepromAfter 2 (enable ++ ragged 7 (0x02 ∷ 0x00 ∷ 1 ∷ []) ++ write 0x01 (2 ∷ []) ++ ends) (0x00 ∷ 0x01 ∷ []) ≡ 255 ∷ 2 ∷ [])
+    -- F24, F30. The same of an address and no data, and of SRWRITE with two data bytes.
     × (eepromAfter 2 (enable ++ write 0x00 [] ++ write 0x01 (2 ∷ []) ++ ends) (0x00 ∷ 0x01 ∷ []) ≡ 255 ∷ 2 ∷ [])
+    × (eepromAfter 2 (enable ++ frame (0x01 ∷ 0x0c ∷ 0x0c ∷ []) ++ write 0x01 (2 ∷ []) ++ ends) (0x01 ∷ []) ≡ 2 ∷ [])
+    -- F26, F30. And of a protected page: under BP 01 C0h gets nothing, and 01h is written without a new enable.
+    × (eepromAfter 2 (enable ++ status 0x04 ++ ends ++ enable ++ write 0xc0 (1 ∷ []) ++ write 0x01 (2 ∷ []) ++ ends) (0xc0 ∷ 0x01 ∷ []) ≡ 255 ∷ 2 ∷ [])
+    -- F27, F30. And of a lock that is not open.
+    × (eepromAfter 2 (enable ++ idWrite 0x05 (1 ∷ []) ++ write 0x01 (2 ∷ []) ++ ends) (0x05 ∷ 0x01 ∷ []) ≡ 255 ∷ 2 ∷ [])
+    -- F19, F30. After such a write EEWRDI still takes the enable back.
+    × (eepromAfter 2 (enable ++ ragged 7 (0x02 ∷ 0x00 ∷ 1 ∷ []) ++ frame (0x04 ∷ []) ++ write 0x01 (2 ∷ []) ++ idle) (0x01 ∷ []) ≡ 255 ∷ [])
     -- F21, F22, E21. A page rolls: from 0Eh the third byte goes to 08h and not to 10h; a ninth byte takes the place of the first.
     × (eepromAfter 2 (enable ++ write 0x0e (1 ∷ 2 ∷ 3 ∷ []) ++ ends) (0x0e ∷ 0x0f ∷ 0x08 ∷ 0x10 ∷ []) ≡ 1 ∷ 2 ∷ 3 ∷ 255 ∷ [])
     × (eepromAfter 2 (enable ++ write 0x08 (1 ∷ 2 ∷ 3 ∷ 4 ∷ 5 ∷ 6 ∷ 7 ∷ 8 ∷ 9 ∷ []) ++ ends) (0x08 ∷ 0x09 ∷ 0x0f ∷ 0x10 ∷ []) ≡ 9 ∷ 2 ∷ 8 ∷ 255 ∷ [])
@@ -116,6 +125,8 @@ ClosedRuns =
     -- P6, P8. A cut takes the enable, and an open frame.
     × (eepromAfter 2 (enable ++ does cut 0 ∷ does up 0 ∷ write 0x00 (1 ∷ []) ++ idle) (0x00 ∷ []) ≡ 255 ∷ [])
     × (eepromAfter 2 (enable ++ does select 0 ∷ does byte 2 ∷ does byte 0 ∷ does byte 1 ∷ does cut 255 ∷ does up 0 ∷ does end 0 ∷ idle) (0x00 ∷ []) ≡ 255 ∷ [])
+    -- L15, P18. Up clears WEL, of a ledger that begins without power and with WEL set.
+    × (foundAt eeprom (0x00 ∷ []) (ledgerRun 2 (does up 0 ∷ write 0x00 (1 ∷ []) ++ idle) (withPower false (withWel true start)) .entries) ≡ 255 ∷ [])
     -- F9, F27, F33, F36, L5. The lock is opened, an SRREAD and an EEWREN between, and used: address 15h is ID place 05h, and EEPROM 05h
     -- gets nothing.
     × (idAfter 2 (unlock 0x55 ++ frame (0x05 ∷ 0x00 ∷ []) ++ unlock 0xaa ++ enable ++ idWrite 0x15 (1 ∷ []) ++ ends) (0x05 ∷ 0x06 ∷ []) ≡ 1 ∷ 255 ∷ [])

@@ -62,7 +62,7 @@ onEnd part leftover l =
     withSelected false
     (withFrame noByte
     (withCycle (pick (l .frame .heard && carried part leftover l) (cycleOf (l .frame)) (l .cycle))
-    (withWel (pick (l .frame .heard) (welAfter leftover (carried part leftover l) (l .frame) (l .wel)) (l .wel))
+    (withWel (pick (l .frame .heard) (welAfter leftover (l .frame) (l .wel)) (l .wel))
     (withLock (pick (l .frame .heard) (lockAfter leftover (l .frame) (l .lock)) (l .lock)) l))))
 
 -- L12. A wait takes its ticks off those that the cycle has left.
@@ -100,9 +100,9 @@ onCut mask l =
       entries = entriesAfter mask (l .cycle) (l .entries);
     }
 
--- L15. Up brings the power back.
+-- L15, P18. Up brings the power back, with WEL clear.
 unfoldable pub onUp : Ledger → Ledger
-onUp l = withPower true l
+onUp l = withPower true (withWel false l)
 
 -- an act that is not refused
 abbrev pub done : ℕ → Act → ℕ → ℕ → Ledger → Ledger

@@ -2,7 +2,7 @@
 -- Assumes nothing.
 use Prim.Native.Nat.{ℕ, _+_, _%_, _<_, _≤_}
 use native.Mathlib.Omega.{arith}
-use mathlib.Core.Path.{_≡_, refl, sym, _∙_}
+use mathlib.Core.Path.{_≡_, refl, sym, ap, _∙_}
 use mathlib.Core.Bool.{Bool, true, false, true≢false, false≢true}
 use mathlib.Core.Logic.{inl, _≢_}
 use mathlib.Core.List.{List}
@@ -20,6 +20,7 @@ use Rattle.base.proofs.BitLaws.{count-ones, members-most, below-mask}
 use Rattle.base.proofs.StoreLaws.{set-case, store-changes}
 use Rattle.record.specs.declared.Device.{Device}
 use Rattle.record.specs.declared.EepromAddress.{EepromAddress}
+use Rattle.record.specs.declared.Guard.{Guard}
 use Rattle.record.specs.declared.IdAddress.{IdAddress}
 use Rattle.record.specs.declared.Load.{Load}
 use Rattle.record.specs.declared.Target.{Target}
@@ -68,6 +69,10 @@ cut-case P mask d p q = pick-when P (vbaten (d .regs)) p q
 
 pub cut-beside : (mask : ℕ) (d : Device) → Beside (stoppedBy mask d) (afterCut mask d)
 cut-beside mask d = cut-case (Beside (stoppedBy mask d)) mask d (λ t. beside (stoppedBy mask d)) (λ t. beside (stoppedBy mask d))
+
+-- P6. A cut clears WEL.
+pub cut-wel : (mask : ℕ) (d : Device) → afterCut mask d .guard .wel ≡ false
+cut-wel mask d = ap (λ (g : Guard). g .wel) (cut-beside mask d .guard)
 
 -- A cut leaves a record in range, whatever its mask.
 stopped-in-range : (part mask : ℕ) (d : Device) → InRange part d → InRange part (stoppedBy mask d)
@@ -199,6 +204,11 @@ up-in-range part d r =
       cycle = r .cycle;
       power = record { unmarked = λ o. refl; idle = λ o. absurd (true≢false o); still = λ o. absurd (true≢false o); heard = r .power .heard };
     }
+
+-- P18. So does power up, whatever it was.
+pub up-wel : (d : Device) → afterUp d .guard .wel ≡ false
+unfolding afterUp
+up-wel d = refl
 
 return-length : (mark : Bool) (regs : List ℕ) → length (returnStamped mark regs) ≡ length regs
 return-length mark regs = pick-case (λ (l : List ℕ). length l ≡ length regs) mark (stamped-length powerUpAt regs) refl

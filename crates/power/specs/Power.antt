@@ -67,6 +67,6 @@ cutWorld mask w =
 abbrev pub returnStamped : Bool → List ℕ → List ℕ
 returnStamped mark regs = pick mark (stamped powerUpAt regs) regs
 
--- P15. Power comes back; the mark has done its work.
+-- P15, P18. Power comes back, with WEL clear; the mark has done its work.
 unfoldable pub afterUp : Device → Device
-afterUp d = withMark (withPower (withRegs d (returnStamped (d .mark) (d .regs))) true) false
+afterUp d = withMark (withPower (withWel (withRegs d (returnStamped (d .mark) (d .regs))) false) true) false

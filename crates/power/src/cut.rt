@@ -165,6 +165,7 @@ pub fn after_up(d: Device) -> Device
     let stamped = return_stamped(d.mark, regs);
     let mut next = d;
     next.regs = stamped;
+    next.guard.wel = false;
     next.power = true;
     next.mark = false;
     next

@@ -73,7 +73,7 @@ module _ (s : World) (part : ℕ) (w : World) (l : Ledger) (a : Agree s part w l
       (record {
         power = refl;
         chosen = a .state .chosen;
-        wel = a .state .wel;
+        wel = refl;
         bp = a .state .bp;
         lock = a .state .lock;
         frame = a .state .frame;

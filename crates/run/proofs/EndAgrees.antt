@@ -1,4 +1,4 @@
--- The end of a frame: whether data came, whether the write is carried, how WEL and the lock move and which cycle starts are the same in the
+-- The end of a frame: whether its data fit, whether the write is carried, how WEL and the lock move and which cycle starts are the same in the
 -- chip and in the ledger, by the code of the frame.
 -- Assumes nothing.
 use Prim.Native.Nat.{ℕ, _+_, _-_, _/_, _%_, _<_, _≤_}
@@ -59,14 +59,13 @@ data-count n o h p q =
     let m : n ≤ 2 = ltb-false 2 n t in
     le-ltb 0 (n - 2) (omega arith) ∙ ap not (sym (eq-eqb o 0 (p (omega arith)))))
 
--- Of a frame whose code writes: whether data came, and as much as fits; and the page.
+-- Of a frame whose code writes: whether as much data came as fits; and the page.
 module _ (load : Load) (f : ledger.Frame) where
   -- the data bytes of a write of that code
   abbrev datas : Code → ℕ
   datas c = f .count - pick (writesPage c) 2 1
 
   pub record DataFits (s : Stage) : Type 0 where
-    pub came : ltb 0 (datas (codeAt s)) ≡ (not (atInstruction s) && (isCode (codeAt s) Srwrite || not (eqb (load .offsets) 0)))
     pub fits :
         (ltb 0 (datas (codeAt s)) && (not (isCode (codeAt s) Srwrite) || eqb (datas (codeAt s)) 1))
         ≡ ((not (atInstruction s) && (isCode (codeAt s) Srwrite || not (eqb (load .offsets) 0))) && not (isOver s))
@@ -78,35 +77,31 @@ module _ (load : Load) (f : ledger.Frame) where
   fits-first : (c : Code) → chip.isWrite c ≡ true → Fits (Instruction c)
   fits-first c w n q =
       let none : ltb 0 (datas c) ≡ false = rw (n .1 (write-moves c w)) (pick-case (λ (k : ℕ). ltb 0 (1 - k) ≡ false) (writesPage c) refl refl) in
-      record { came = none; fits = rw none; page = λ e. q .page }
+      record { fits = rw none; page = λ e. q .page }
 
   fits-page : (b : Bool) (o : ℕ) → 1 < f .count → (f .count ≡ 2 → o ≡ 0) → (2 < f .count → 0 < o) → (ltb 0 (f .count - 2) && true) ≡ (not (eqb o 0) && true)
   fits-page b o n p q = ap (λ (t : Bool). t && true) (data-count (f .count) o n p q)
 
   fits-eeprom : (a : EepromAddress) → Fits (Writing (EepromAt a))
   fits-eeprom a n q =
-      record { came = data-count (f .count) (load .offsets) n (q .none) (q .some); fits = fits-page true (load .offsets) n (q .none) (q .some); page = λ e. q .page }
+      record { fits = fits-page true (load .offsets) n (q .none) (q .some); page = λ e. q .page }
 
   fits-id : (a : IdAddress) → Fits (Writing (IdAt a))
   fits-id a n q =
-      record { came = data-count (f .count) (load .offsets) n (q .none) (q .some); fits = fits-page true (load .offsets) n (q .none) (q .some); page = λ e. absurd (false≢true e) }
+      record { fits = fits-page true (load .offsets) n (q .none) (q .some); page = λ e. absurd (false≢true e) }
 
   fits-status : (v : ℕ) → Fits (Second (StatusData v))
-  fits-status v n q = record { came = rw n; fits = rw n; page = λ e. absurd (false≢true e) }
+  fits-status v n q = record { fits = rw n; page = λ e. absurd (false≢true e) }
 
   fits-over : Fits (Over StatusOver)
   fits-over n q =
       let more : ltb 0 (f .count - 1) ≡ true = lt-ltb 0 (f .count - 1) (omega arith) in
-      record { came = more; fits = rw (more, ne-eqb (f .count - 1) 1 (λ e. omega arith)); page = λ e. absurd (false≢true e) }
+      record { fits = rw (more, ne-eqb (f .count - 1) 1 (λ e. omega arith)); page = λ e. absurd (false≢true e) }
 
   pub fits : (s : Stage) → chip.isWrite (codeAt s) ≡ true → Fits s
   fits = write-stage Fits fits-first fits-eeprom fits-id fits-status fits-over
 
 -- the same tests in another order
-two : (w x a b : Bool) → (w ≡ true → x ≡ (a && b)) → (w && x) ≡ ((w && a) && b)
-two true x a b e = e refl
-two false x a b e = refl
-
 three : (w x y a b c : Bool) → (w ≡ true → (x && y) ≡ ((a && b) && c)) → ((w && x) && y) ≡ (((w && a) && b) && c)
 three true x y a b c e = e refl
 three false x y a b c e = refl
@@ -138,11 +133,6 @@ unlock-agrees true false true Open y e = rw e
 module _ (s : Stage) (load : Load) (f : ledger.Frame) (q : FrameAgrees s load f) (h : heard s ≡ true) where
   test : (c : Code) → isCode c Other ≡ false → eqb (f .code) (codeNumber c) ≡ isCode (codeAt s) c
   test c o = code-at f c o (codeAt s) (q .code h)
-
-  came : rules.withData f ≡ chip.dataCame load s
-  came =
-      (λ i. write-at f (codeAt s) (q .code h) i && ltb 0 (f .count - pick (addressed-at f (codeAt s) (q .code h) i) 2 1))
-      ∙ two (chip.isWrite (codeAt s)) _ (not (atInstruction s)) _ (λ w. fits load f s w (q .count) (q .brought) .came)
 
   enough : rules.dataFits f ≡ chip.dataFits load s
   enough =
@@ -279,20 +269,19 @@ module _ (part k : ℕ) (d : Device) (l : Ledger) (known : isPart part ≡ true)
 
   -- how WEL moves
   wel : Bool
-  wel = rules.welAfter k (rules.carried part k l) (l .frame) (l .wel)
+  wel = rules.welAfter k (l .frame) (l .wel)
 
-  wel-heard : heard s ≡ true → wel ≡ chip.welAfter (topOf part) k d
+  wel-heard : heard s ≡ true → wel ≡ chip.welAfter k (d .guard .wel) s
   unfolding wel rules.welAfter chip.welAfter
   wel-heard h i =
       pick (latch s (d .load) (l .frame) (a .frame) h k Eewren refl refl i) true
-      (pick (latch s (d .load) (l .frame) (a .frame) h k Eewrdi refl refl i) false
-      (pick (came s (d .load) (l .frame) (a .frame) h i && not (carried-heard h i)) false (a .wel i)))
+      (pick (latch s (d .load) (l .frame) (a .frame) h k Eewrdi refl refl i) false (a .wel i))
 
-  wel-deaf : heard s ≡ false → chip.welAfter (topOf part) k d ≡ d .guard .wel
+  wel-deaf : heard s ≡ false → chip.welAfter k (d .guard .wel) s ≡ d .guard .wel
   unfolding chip.welAfter
   wel-deaf h = rw (unheard-code s h)
 
-  pub wel-agrees : pick (l .frame .heard) (rules.welAfter k (rules.carried part k l) (l .frame) (l .wel)) (l .wel) ≡ chip.welAfter (topOf part) k d
+  pub wel-agrees : pick (l .frame .heard) (rules.welAfter k (l .frame) (l .wel)) (l .wel) ≡ chip.welAfter k (d .guard .wel) s
   unfolding wel
   wel-agrees =
       by-cases (heard s) (λ h. ap (λ (b : Bool). pick b wel (l .wel)) (a .frame .heard ∙ h) ∙ wel-heard h)

@@ -15,4 +15,5 @@ pub mod RunLaws
 pub mod TurnLaws
 pub mod ChangeLaws
 pub mod StampLaws
+pub mod LatchLaws
 pub mod WrongLaws

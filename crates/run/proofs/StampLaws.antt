@@ -43,7 +43,7 @@ use Rattle.power.specs.Power.{afterCut, cutWorld, afterUp}
 use Rattle.power.proofs.PowerLaws.{cut-device, cut-beside}
 use Rattle.power.proofs.StampLaws.{cut-mark, cut-stamps, cut-held, fresh-stamp, cut-lost, up-mark, up-stamps, up-leaves}
 use Rattle.acts.specs.Act.{Outcome, accepted, refusalIn, performed}
-use Rattle.acts.proofs.OutcomeLaws.{answered-by-table, by-acceptance, by-refusal}
+use Rattle.acts.proofs.OutcomeLaws.{answered-by-table, by-acceptance, changed-by, done-as}
 use Rattle.acts.proofs.ValidLaws.{Valid, performed-valid, fresh-valid}
 use Rattle.run.specs.Claim.{Input, ourChip, worldAfter}
 use Rattle.run.specs.Stamps.{StampAct, fails, forgets, returns, clears, NoUp, powerOff, powerBack, PowerFailure, TimeStamps}
@@ -162,24 +162,6 @@ mark-of part arg w End n = absurd (n refl)
 mark-of part arg w Wait n = absurd (n (wait-stays part arg w .mark))
 mark-of part arg w Cut n = inl refl
 mark-of part arg w Up n = inr refl
-
--- So of every act; a refused one changes nothing.
-changed-by :
-    {A : Type 0} (f : World → A) (Q : Type 0) (part : ℕ) (act : Act) (arg : ℕ) (w : World)
-    → (refusalIn part act arg w ≡ 0 → f (accepted part arg w act .after) ≢ f w → Q)
-    → f (performed part act arg w .after) ≢ f w → (performed part act arg w .number ≡ 0) × Q
-changed-by f Q part act arg w q n =
-    by-cases (eqb (refusalIn part act arg w) 0)
-    (λ t.
-    let e = eqb-true (refusalIn part act arg w) 0 t in (
-      answered-by-table part act arg w ∙ e,
-      q e (λ s. n (ap (λ (o : Outcome). f (o .after)) (by-acceptance part act arg w e) ∙ s)),
-    ))
-    (λ t. absurd (n (ap (λ (o : Outcome). f (o .after)) (by-refusal part act arg w t))))
-
--- an act that is done, as the accepted one
-done-as : (part : ℕ) (act : Act) (arg : ℕ) (w : World) → performed part act arg w .number ≡ 0 → performed part act arg w ≡ accepted part arg w act
-done-as part act arg w e = by-acceptance part act arg w (sym (answered-by-table part act arg w) ∙ e)
 
 abbrev device-of : Outcome → Device
 device-of o = o .after .device

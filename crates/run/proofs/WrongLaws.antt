@@ -28,14 +28,19 @@ use Rattle.ledger.specs.Bytes as bytes
 use Rattle.ledger.specs.Steps as steps
 use Rattle.run.specs.Claim.{Chip, Input, DemandThree, memorySize, ourChip, worldAfter, stepsOf}
 use Rattle.run.specs.Script.{sent}
-use Rattle.run.specs.Wrong.{enablelessChip, deafChip, emptyChip, masklessChip, locklessChip, wholeCase, enableForgotten, cutWithNothing, lockForgotten, Differs, Refutations, RunsShown}
+use Rattle.run.specs.Wrong.{enablelessChip, deafChip, emptyChip, masklessChip, locklessChip, lapsingChip, wholeCase, enableForgotten, cutWithNothing, lockForgotten, afterProtected, Differs, Refutations, RunsShown}
 
 -- both statements compute
 computed : Refutations × RunsShown
-unfolding Refutations RunsShown worldAfter stepsOf enablelessChip deafChip emptyChip masklessChip locklessChip ourChip performed refusalOf outOfRange clockOut frameOut cycleOut powerOut bitOutside every fresh sent afterSelect afterByte nextReply afterEnd carried cycleAfter welAfter waitedBy tick cycleTick cycleDevice clockwork changed irqLow wdoLow oscillatorTick watchdogTick calendarTick afterCut cutCount cutWorld storeUnder members start noByte noCycle frames.firstByte frames.laterByte frames.carried frames.cycleOf frames.welAfter frames.lockAfter bytes.isLoaded bytes.loadedByte bytes.entriesUnder bytes.entriesAfter bytes.bpAfter bytes.byteOf steps.refused steps.onSelect steps.onByte steps.onEnd steps.ticked steps.waited steps.finished steps.onWait steps.onCut steps.follow steps.ledgerRun
+unfolding Refutations RunsShown worldAfter stepsOf enablelessChip deafChip emptyChip masklessChip locklessChip lapsingChip ourChip performed refusalOf outOfRange clockOut frameOut cycleOut powerOut bitOutside every fresh sent afterSelect afterByte nextReply afterEnd carried cycleAfter welAfter waitedBy tick cycleTick cycleDevice clockwork changed irqLow wdoLow oscillatorTick watchdogTick calendarTick afterCut cutCount cutWorld storeUnder members start noByte noCycle frames.firstByte frames.laterByte frames.carried frames.cycleOf frames.welAfter frames.lockAfter bytes.isLoaded bytes.loadedByte bytes.entriesUnder bytes.entriesAfter bytes.bpAfter bytes.byteOf steps.refused steps.onSelect steps.onByte steps.onEnd steps.ticked steps.waited steps.finished steps.onWait steps.onCut steps.follow steps.ledgerRun
 computed = (
-  ((refl, refl), (refl, refl), (refl, refl), (refl, refl), (refl, refl)),
-  ((refl, refl, refl, refl, refl), (refl, refl, refl, refl, refl), (refl, refl, refl, refl, refl), (refl, refl, refl, refl, refl)),
+  ((refl, refl), (refl, refl), (refl, refl), (refl, refl), (refl, refl), (refl, refl)),
+  (
+    (refl, refl, refl, refl, refl, refl, refl, refl, refl),
+    (refl, refl, refl, refl, refl, refl, refl, refl, refl),
+    (refl, refl, refl, refl, refl, refl, refl, refl, refl),
+    (refl, refl, refl, refl, refl, refl, refl, refl, refl),
+  ),
 )
 
 pub refutations : Refutations
@@ -69,3 +74,7 @@ maskless-fails = refuted masklessChip cutWithNothing eeprom 0 52 255 (omega arit
 pub lockless-fails : DemandThree locklessChip → ⊥
 unfolding Refutations
 lockless-fails = refuted locklessChip lockForgotten id 3 77 255 (omega arith) (refutations .4) refl
+
+pub lapsing-fails : DemandThree lapsingChip → ⊥
+unfolding Refutations
+lapsing-fails = refuted lapsingChip afterProtected eeprom 0 255 52 (omega arith) (refutations .5) refl

@@ -4,3 +4,4 @@ pub mod Script
 pub mod Wrong
 pub mod Changes
 pub mod Stamps
+pub mod Latch

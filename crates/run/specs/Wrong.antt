@@ -1,19 +1,23 @@
 -- Wrong chips, each ours with one change around it, and the runs that refute them. They show that demand 3 is no empty promise.
 -- Assumes nothing.
 use Prim.Native.Nat.{ℕ}
-use mathlib.Core.Bool.{Bool, true, false}
+use mathlib.Core.Bool.{Bool, true, false, not, _&&_}
 use mathlib.Core.List.{List, [], _∷_, _++_}
 use mathlib.Core.Path.{_≡_}
 use lib.ListN.{getD}
+use Rattle.base.specs.Words.{pick}
 use Rattle.record.specs.declared.Act.the-variants.{Select, Byte, End, Wait, Cut, Up}
 use Rattle.record.specs.declared.Lock.the-variants.{Open}
 use Rattle.record.specs.Setters.{withWel, withLock}
+use Rattle.record.specs.Stages.{selected}
 use Rattle.record.specs.World.{World, moved, freshWorld}
+use Rattle.ticks.specs.Lines.{wip}
+use Rattle.ends.specs.Write.{dataCame}
 use Rattle.ledger.specs.State.{Memory, eeprom, id, start}
 use Rattle.ledger.specs.Bytes.{byteOf}
 use Rattle.ledger.specs.Steps.{ledgerRun}
 use Rattle.run.specs.Claim.{Chip, Input, ourChip, worldAfter, stepsOf, memoryOf}
-use Rattle.run.specs.Script.{does, frameOf}
+use Rattle.run.specs.Script.{does, raggedFrame, frameOf}
 
 -- a chip whose WEL is set to a value, and one whose lock is open
 abbrev pub latchedAt : Bool → World → World
@@ -55,6 +59,14 @@ deafChip = changedBy (λ v w. latchedAt false w)
 unfoldable pub emptyChip : Chip
 emptyChip = changedBy (λ v w. moved v (w .device))
 
+-- a heard write frame with data was open, is closed, and no cycle runs
+abbrev pub cameToNothing : World → World → Bool
+cameToNothing v w = dataCame (v .device .load) (v .device .frame .stage) && not (selected (w .device .frame .stage)) && not (wip (w .device))
+
+-- R3, F30. The chip of the outline's first edition: a write that starts no cycle clears its latch.
+unfoldable pub lapsingChip : Chip
+lapsingChip = changedBy (λ v w. pick (cameToNothing v w) (latchedAt false w) w)
+
 -- T10. the whole case, after its part
 abbrev pub wholeCase : List Input
 wholeCase =
@@ -75,6 +87,22 @@ lockForgotten = frameOf (6 ∷ []) ++ frameOf (0x32 ∷ 3 ∷ 77 ∷ []) ++ (doe
 abbrev pub idProgrammed : List Input
 idProgrammed = frameOf (0x14 ∷ 0x55 ∷ []) ++ frameOf (0x14 ∷ 0xaa ∷ []) ++ lockForgotten
 
+-- The last quarter is protected, F0h on both sizes: a write there comes to nothing, and one to 00h follows it without a new enable.
+abbrev pub afterProtected : List Input
+afterProtected =
+    frameOf (6 ∷ []) ++ frameOf (1 ∷ 4 ∷ []) ++ (does Wait 200 ∷ []) ++ frameOf (6 ∷ []) ++ frameOf (2 ∷ 0xf0 ∷ 18 ∷ [])
+    ++ frameOf (2 ∷ 0 ∷ 52 ∷ []) ++ (does Wait 200 ∷ [])
+
+-- the same after a write with the lock not open, after SRWRITE with two data bytes, and after a write with a leftover bit
+abbrev pub afterLocked : List Input
+afterLocked = frameOf (6 ∷ []) ++ frameOf (0x32 ∷ 3 ∷ 77 ∷ []) ++ frameOf (2 ∷ 0 ∷ 52 ∷ []) ++ (does Wait 200 ∷ [])
+
+abbrev pub afterTwoData : List Input
+afterTwoData = frameOf (6 ∷ []) ++ frameOf (1 ∷ 12 ∷ 12 ∷ []) ++ frameOf (2 ∷ 0 ∷ 52 ∷ []) ++ (does Wait 200 ∷ [])
+
+abbrev pub afterLeftover : List Input
+afterLeftover = frameOf (6 ∷ []) ++ raggedFrame 1 (2 ∷ 0 ∷ 18 ∷ []) ++ frameOf (2 ∷ 0 ∷ 52 ∷ []) ++ (does Wait 200 ∷ [])
+
 -- the byte that a chip holds at a place after a run from fresh, and the byte that the ledger gives for it
 abbrev pub held : Chip → ℕ → List Input → Memory → ℕ → ℕ
 held chip part xs m p = getD (memoryOf m (worldAfter chip part xs (freshWorld part))) p 0
@@ -94,8 +122,10 @@ Refutations =
     × Differs emptyChip 2 wholeCase eeprom 0 255 52
     × Differs masklessChip 2 cutWithNothing eeprom 0 52 255
     × Differs locklessChip 2 lockForgotten id 3 77 255
+    × Differs lapsingChip 2 afterProtected eeprom 0 255 52
 
--- our chip on each part: the whole case stores 18 at 07h and 52 at 00h; with the enable forgotten the byte stays FFh; an ID byte is programmed
+-- our chip on each part: the whole case stores 18 at 07h and 52 at 00h; with the enable forgotten the byte stays FFh; an ID byte is programmed;
+-- a write that follows one that came to nothing needs no new enable
 abbrev pub Runs : ℕ → Type 0
 Runs part =
     (held ourChip part wholeCase eeprom 0 ≡ 52)
@@ -103,6 +133,10 @@ Runs part =
     × (ourChip part Wait 200 (worldAfter ourChip part (frameOf (6 ∷ []) ++ frameOf (2 ∷ 7 ∷ 18 ∷ 52 ∷ [])) (freshWorld part)) .used ≡ 164)
     × (held ourChip part enableForgotten eeprom 0 ≡ 255)
     × (held ourChip part idProgrammed id 3 ≡ 77)
+    × (held ourChip part afterProtected eeprom 0 ≡ 52)
+    × (held ourChip part afterLocked eeprom 0 ≡ 52)
+    × (held ourChip part afterTwoData eeprom 0 ≡ 52)
+    × (held ourChip part afterLeftover eeprom 0 ≡ 52)
 
 -- R6, W6.
 unfoldable pub RunsShown : Type 0

@@ -1,4 +1,4 @@
--- `ends::write::wel_after`: by the tests of F19 and F30 in their order, each a call's promise.
+-- `ends::write::wel_after`: by the tests of F19 in their order, each a call's promise.
 -- Assumes nothing.
 use Rattle.ends.specs.Write.{welAfter}
 use borrow.Author.Needs.{needs}
@@ -15,15 +15,10 @@ returns-2 c = simp (simp (c .before .latched-by2 .ensures) at (c .if2 .taken), s
 
 returns-3 : tie.Need-returns-3
 unfolding welAfter
-returns-3 c = simp (simp (c .before .before .data-came .ensures, c .before .is-carried .ensures) at (c .if3 .taken), simp (c .before .before .before .before .latched-by2 .ensures) at (c .before .before .before .if2 .left), simp (c .before .before .before .before .before .before .latched-by .ensures) at (c .before .before .before .before .before .if1 .left))
-
-returns-4 : tie.Need-returns-4
-unfolding welAfter
-returns-4 c = simp (simp (c .before .before .data-came .ensures, c .before .is-carried .ensures) at (c .if3 .left), simp (c .before .before .before .before .latched-by2 .ensures) at (c .before .before .before .if2 .left), simp (c .before .before .before .before .before .before .latched-by .ensures) at (c .before .before .before .before .before .if1 .left))
+returns-3 c = simp (simp (c .before .latched-by2 .ensures) at (c .if2 .left), simp (c .before .before .before .latched-by .ensures) at (c .before .before .if1 .left))
 
 pub wel-after-spec : {M : Type 1} → statement M
 unfolding welAfter
 wel-after-spec =
     tie.close
-    (tie.spec
-    (λ c κs. search needs) returns (λ c κs. search needs) returns-2 (λ c κs. search needs) (λ c κs. search needs) returns-3 returns-4)
+    (tie.spec (λ c κs. search needs) returns (λ c κs. search needs) returns-2 returns-3)

@@ -7,7 +7,7 @@ use Rattle.power.proofs.cut.after_up.Tie as tie
 
 returns : tie.Need-returns
 unfolding afterUp
-returns c = simp (c .return-stamped .ensures)
+returns c = simp (c .before .return-stamped .ensures)
 
 pub after-up-spec : {M : Type 1} → statement M
 unfolding afterUp
