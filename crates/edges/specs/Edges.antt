@@ -70,7 +70,7 @@ Edges =
     (after 1 (frameOf (0x12 ∷ 0x5f ∷ 0x88 ∷ []) ++ frameOf (0x12 ∷ 0x20 ∷ 0x99 ∷ [])) (freshWorld 1)) ≡ Driven 0x88 ∷ Driven 0x99 ∷ [])
     -- E13. page 07h to 00h: the second byte of a write at 07h goes to 00h, and no other place changes
     × (after 2 (frameOf (6 ∷ []) ++ frameOf (2 ∷ 7 ∷ 18 ∷ 52 ∷ []) ++ waiting 200) (freshWorld 2) .eeprom ≡ set (set (replicate 256 255) 7 18) 0 52)
-    -- E14. 2 Kbit under BP 01, at BFh and at C0h: a cycle starts and stores, or none starts and the enable is gone
+    -- E14. 2 Kbit under BP 01, at BFh and at C0h: a cycle starts and stores, or none starts and WEL stays
     × (
     let quarter : World = after 2 (frameOf (6 ∷ []) ++ frameOf (1 ∷ 4 ∷ []) ++ waiting 200 ++ frameOf (6 ∷ [])) (freshWorld 2) in
     let free : World = after 2 (frameOf (2 ∷ 0xbf ∷ 52 ∷ [])) quarter in
@@ -79,7 +79,7 @@ Edges =
     × (free .device .cycle .left ≡ 164)
     × (after 2 (waiting 200) free .eeprom ≡ set (replicate 256 255) 0xbf 52)
     × (shut .device .cycle .left ≡ 0)
-    × (shut .device .guard .wel ≡ false)
+    × (shut .device .guard .wel ≡ true)
     × (after 2 (waiting 200) shut .eeprom ≡ replicate 256 255))
 
 -- Each edge computes.

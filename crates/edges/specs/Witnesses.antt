@@ -3,10 +3,11 @@
 use Rattle.edges.specs.Ticks.{WaitsShown, waits-shown}
 use Rattle.edges.specs.Acts.{ActsShown, acts-shown}
 use Rattle.edges.specs.Stamps.{StampsShown, stamps-shown}
+use Rattle.edges.specs.Latch.{LatchShown, latch-shown}
 
 pub Witnesses : Type 0
-Witnesses = WaitsShown × ActsShown × StampsShown
+Witnesses = WaitsShown × ActsShown × StampsShown × LatchShown
 
 pub witnesses : Witnesses
 unfolding Witnesses
-witnesses = (waits-shown, acts-shown, stamps-shown)
+witnesses = (waits-shown, acts-shown, stamps-shown, latch-shown)

@@ -73,7 +73,7 @@ module _ (part n : ℕ) (w : World) (r : InRange part (w .device)) where
   wait-clears : All → welOf (q .after) ≡ false
   wait-clears a =
       let t : ended (w .device) (q .after .device) ≡ true =
-          spent-ended w q spent ∙ both-true (lt-ltb 0 (w .device .cycle .left) (a .0)) (le-leb (w .device .cycle .left) (q .used) (omega (arith, a .1))) in
+      spent-ended w q spent ∙ both-true (lt-ltb 0 (w .device .cycle .left) (a .0)) (le-leb (w .device .cycle .left) (q .used) (omega (arith, a .1))) in
       rw t at (spent .wel)
 
   wait-leaves : welOf w ≡ false → welOf (q .after) ≡ false
@@ -239,14 +239,14 @@ sent-ends part leftover h [] v z f =
 sent-ends part leftover h (b ∷ bs) v z f =
     let y : World = performed part Byte b v .after in
     let m : ByteLeft part b (v .device) (y .device) =
-        subst (λ (o : Outcome). ByteLeft part b (v .device) (o .after .device)) (sym (byte-done part b v (z 0) f)) (byte-left part b (v .device)) in
+    subst (λ (o : Outcome). ByteLeft part b (v .device) (o .after .device)) (sym (byte-done part b v (z 0) f)) (byte-left part b (v .device)) in
     let e =
-        sent-ends part leftover h bs y (λ k. z (suc k))
-        (record {
-          setup = performed-suited part Byte b v (f .setup);
-          power = m .power ∙ f .power;
-          chosen = ap selected (m .stage) ∙ stage-selected (topOf part) (wip (v .device)) b (v .device .frame .stage) ∙ f .chosen;
-        }) in
+    sent-ends part leftover h bs y (λ k. z (suc k))
+    (record {
+      setup = performed-suited part Byte b v (f .setup);
+      power = m .power ∙ f .power;
+      chosen = ap selected (m .stage) ∙ stage-selected (topOf part) (wip (v .device)) b (v .device .frame .stage) ∙ f .chosen;
+    }) in
     record {
       last = e .last;
       wel = e .wel ∙ m .wel;
