@@ -149,6 +149,7 @@ pub struct Device {
     pub target: Target,
     /// Ticks left of the write cycle; 0 is no cycle.
     pub countdown: u64,
+    /// 000 3.3, 02 Latch: EEWREN sets it; EEWRDI, the end of a cycle, a cut and an up clear it.
     pub wel: bool,
     pub protection: Protection,
     pub lock: Lock,
@@ -520,11 +521,14 @@ fn end(part: u64, device: &mut Device, leftover: u64) {
             EEWRDI if bytes == Bytes::One && whole => device.wel = false,
             CLRWDT if bytes != Bytes::More && whole => device.watchdog = 0,
             CLRRAM if bytes != Bytes::More && whole => device.sram = [0; 64],
-            EEWRITE | IDWRITE if bytes == Bytes::More => end_page_write(part, device, code, whole),
-            SRWRITE if bytes != Bytes::One => {
-                let carried = device.wel && bytes == Bytes::Two && whole;
-                let protection = Protection::from_bits(second >> 2);
-                end_write(device, carried, Target::Status(protection));
+            EEWRITE if bytes == Bytes::More && whole && page_is_free(part, device) => {
+                start_cycle(device, Target::Eeprom);
+            }
+            IDWRITE if bytes == Bytes::More && whole && device.lock == Lock::Open => {
+                start_cycle(device, Target::Id);
+            }
+            SRWRITE if bytes == Bytes::Two && whole => {
+                start_cycle(device, Target::Status(Protection::from_bits(second >> 2)));
             }
             _ => {}
         }
@@ -533,23 +537,17 @@ fn end(part: u64, device: &mut Device, leftover: u64) {
     device.frame = Frame::Idle;
 }
 
-fn end_page_write(part: u64, device: &mut Device, code: u8, whole: bool) {
-    let (free, target) = if code == EEWRITE {
-        let page = device.eeprom_pointer as usize / 8 * 8;
-        (page < device.protection.first_protected(eeprom_length(part)), Target::Eeprom)
-    } else {
-        (device.lock == Lock::Open, Target::Id)
-    };
-    end_write(device, device.wel && whole && free, target);
+fn page_is_free(part: u64, device: &Device) -> bool {
+    let page = device.eeprom_pointer as usize / 8 * 8;
+    page < device.protection.first_protected(eeprom_length(part))
 }
 
-/// 01 Frames: a write frame that had data starts its cycle (is 'carried') or loses WEL.
-fn end_write(device: &mut Device, carried: bool, target: Target) {
-    if carried {
+/// 01 Frames: the last thing that a write wants is WEL; then it is 'carried'. 02 Latch: the end of
+/// its cycle clears WEL, and a write that comes to nothing leaves it as it was.
+fn start_cycle(device: &mut Device, target: Target) {
+    if device.wel {
         device.target = target;
         device.countdown = WRITE_CYCLE;
-    } else {
-        device.wel = false;
     }
 }
 
@@ -752,6 +750,8 @@ fn cut(device: &mut Device, mask: u8, eeprom: &mut [u8], id: &mut [u8]) -> u64 {
 /// 01 Power, 02 Time-stamps: power is back. Only the mark tells whether the cut took a time-stamp.
 fn up(device: &mut Device) {
     device.power = true;
+    // 02 Latch: the cut has cleared it; a record may come from elsewhere.
+    device.wel = false;
     if device.stamp_due {
         stamp(device, POWER_UP);
         device.stamp_due = false;

@@ -96,7 +96,7 @@ impl Ledger {
             Act::End => self.end(number),
             Act::Wait => self.wait(ticks),
             Act::Cut => self.cut(number as u8),
-            Act::Up => self.power = true,
+            Act::Up => self.up(),
         }
     }
 
@@ -142,15 +142,12 @@ impl Ledger {
         if !frame.heard {
             return;
         }
-        let carried = self.carried(&frame, leftover);
-        if let Some(kind) = carried {
+        if let Some(kind) = self.carried(&frame, leftover) {
             self.cycle = Some(Cycle { kind, loaded: frame.loaded, left: 164 });
         }
         match frame.code {
             0x06 if frame.bytes == 1 && leftover == 0 => self.wel = true,
             0x04 if frame.bytes == 1 && leftover == 0 => self.wel = false,
-            0x02 | 0x32 if frame.bytes > 2 && carried.is_none() => self.wel = false,
-            0x01 if frame.bytes > 1 && carried.is_none() => self.wel = false,
             _ => {}
         }
         self.lock = match frame.code {
@@ -225,5 +222,11 @@ impl Ledger {
         self.frame = None;
         self.wel = false;
         self.lock = Lock::Closed;
+    }
+
+    /// 02 Latch: power on is one of the things that clear WEL.
+    fn up(&mut self) {
+        self.power = true;
+        self.wel = false;
     }
 }

@@ -1,10 +1,11 @@
-//! Demand 3 on random runs: every EEPROM and ID byte is the ledger's byte.
+//! Demand 3: every EEPROM and ID byte is the ledger's byte, on random runs and after writes that
+//! came to nothing.
 
 mod common;
 use common::*;
 use model::chip::{Frame, Lock};
 use model::generate;
-use model::ledger::{self, Ledger, Memory};
+use model::ledger::{self, Entry, Ledger, Memory};
 use model::tape::{parse, Op};
 use model::Act;
 
@@ -32,30 +33,70 @@ fn agrees(rig: &Rig, ledger: &Ledger) -> bool {
         && d.countdown == ledger.cycle.as_ref().map_or(0, |cycle| cycle.left)
 }
 
+/// A chip, and a ledger that is told the same acts.
+struct Told {
+    rig: Rig,
+    ledger: Ledger,
+}
+
+impl Told {
+    fn new(part: u64) -> Told {
+        Told { rig: Rig::new(part), ledger: Ledger::new(part) }
+    }
+
+    /// An act; of its answer the ledger is told a wait's ticks.
+    fn act(&mut self, act: Act, number: u64) {
+        let ticks = match (act, self.rig.act(act, number)) {
+            (Act::Wait, answer) => answer.count,
+            _ => 0,
+        };
+        self.ledger.feed(act, number, ticks);
+    }
+
+    /// The same, and what both hold is then the same.
+    fn agreed(&mut self, act: Act, number: u64) {
+        self.act(act, number);
+        let Told { rig, ledger } = self;
+        assert!(agrees(rig, ledger), "{act:?} {number}: {:?} {ledger:?}", rig.device);
+    }
+
+    fn frame(&mut self, bytes: &[u8], leftover: u64) {
+        self.agreed(Act::Select, 0);
+        for &byte in bytes {
+            self.agreed(Act::Byte, byte.into());
+        }
+        self.agreed(Act::End, leftover);
+    }
+
+    /// The entries that a frame and enough ticks for a cycle add.
+    fn entered(&mut self, bytes: &[u8], leftover: u64) -> Vec<Entry> {
+        let before = self.ledger.entries.len();
+        self.frame(bytes, leftover);
+        self.agreed(Act::Wait, 200);
+        assert!(same_bytes(&self.rig, &self.ledger), "{bytes:02X?} and {leftover} bits");
+        self.ledger.entries[before..].to_vec()
+    }
+}
+
 /// Feeds the acts of a random tape; gives how many there were and how many entries.
 fn run(seed: u64, tape: &[u8]) -> (u64, usize) {
-    let part = 1 + seed % 4;
-    let mut rig = Rig::new(part);
-    let mut ledger = Ledger::new(part);
+    let mut told = Told::new(1 + seed % 4);
     let (mut acts, mut entries) = (0, 0);
-    let mut memories = (rig.eeprom.clone(), rig.id.clone());
+    let mut memories = (told.rig.eeprom.clone(), told.rig.id.clone());
     for line in tape.split(|&b| b == b'\n') {
         let Some((Op::Do(act), number)) = parse(line) else { continue };
         acts += 1;
-        let ticks = match (act, rig.act(act, number)) {
-            (Act::Wait, answer) if answer.number == 0 => answer.count,
-            _ => 0,
-        };
-        ledger.feed(act, number, ticks);
-        assert!(agrees(&rig, &ledger), "seed {seed}, act {acts}: {:?} {ledger:?}", rig.device);
+        told.act(act, number);
+        let Told { rig, ledger } = &told;
+        assert!(agrees(rig, ledger), "seed {seed}, act {acts}: {:?} {ledger:?}", rig.device);
         // Equal memories stay equal while neither side moves.
         if ledger.entries.len() != entries || memories != (rig.eeprom.clone(), rig.id.clone()) {
-            assert!(same_bytes(&rig, &ledger), "seed {seed}, act {acts}");
+            assert!(same_bytes(rig, ledger), "seed {seed}, act {acts}");
             entries = ledger.entries.len();
             memories = (rig.eeprom.clone(), rig.id.clone());
         }
     }
-    assert!(same_bytes(&rig, &ledger), "seed {seed}");
+    assert!(same_bytes(&told.rig, &told.ledger), "seed {seed}");
     (acts, entries)
 }
 
@@ -131,4 +172,106 @@ fn refused_acts_leave_the_ledger() {
     let open = ledger.clone();
     ledger.feed(Act::Select, 0, 0);
     assert_eq!(ledger, open);
+}
+
+/// One entry of a byte at a place of the EEPROM.
+fn eeprom_entry(place: usize, byte: u8) -> Vec<Entry> {
+    vec![Entry { memory: Memory::Eeprom, place, byte }]
+}
+
+#[test]
+fn after_a_write_that_came_to_nothing() {
+    // 02 Latch: with BP 01 and the lock closed these enter nothing. One enable before them is
+    // enough for the write after them, and for no second one. The last quarter is protected from
+    // C0h on, with 1 Kbit from 60h on.
+    for (part, free, protected) in
+        [(W1K, 0x5F, 0x60), (W2K, 0xBF, 0xC0), (B1K, 0x5F, 0x60), (B2K, 0xBF, 0xC0)]
+    {
+        for (bytes, leftover) in [
+            (&[0x02, protected, 0x11][..], 0),
+            (&[0x32, 0x00, 0x11], 0),
+            (&[0x02, free, 0x11], 1),
+            (&[0x02, free, 0x11], 7),
+            (&[0x01, 0x00], 4),
+            (&[0x01, 0x00, 0x00], 0),
+            (&[0x01, 0x00, 0x00, 0x00], 0),
+        ] {
+            let mut told = Told::new(part);
+            told.frame(&[0x06], 0);
+            told.frame(&[0x01, 0x04], 0);
+            told.agreed(Act::Wait, 164);
+            assert_eq!(told.ledger.bp, 0b01);
+            // Without the enable nothing is entered either.
+            assert_eq!(told.entered(bytes, leftover), []);
+            assert_eq!(told.entered(&[0x02, free, 0x22], 0), []);
+            told.frame(&[0x06], 0);
+            assert_eq!(told.entered(bytes, leftover), []);
+            assert_eq!(told.entered(&[0x02, free, 0x33], 0), eeprom_entry(free.into(), 0x33));
+            assert_eq!(told.entered(&[0x02, free, 0x44], 0), []);
+            assert_eq!(told.rig.eeprom[usize::from(free)], 0x33);
+            assert_eq!(told.rig.eeprom[usize::from(protected)], 0xFF);
+            // The same for an ID byte, with the lock opened in between.
+            told.frame(&[0x06], 0);
+            assert_eq!(told.entered(bytes, leftover), []);
+            told.frame(&[0x14, 0x55], 0);
+            told.frame(&[0x14, 0xAA], 0);
+            let id = Entry { memory: Memory::Id, place: 9, byte: 0x55 };
+            assert_eq!(told.entered(&[0x32, 0x09, 0x55], 0), [id]);
+            assert_eq!((told.rig.id[9], told.ledger.bp), (0x55, 0b01));
+        }
+    }
+}
+
+#[test]
+fn a_cut_takes_the_enable() {
+    // After a protected write as well: the write after the up enters nothing.
+    for mask in [0x00, 0xFF] {
+        let mut told = Told::new(W2K);
+        told.frame(&[0x06], 0);
+        told.frame(&[0x01, 0x0C], 0);
+        told.agreed(Act::Wait, 164);
+        told.frame(&[0x06], 0);
+        assert_eq!(told.entered(&[0x02, 0x00, 0x11], 0), []);
+        assert!(told.ledger.wel);
+        told.agreed(Act::Cut, mask);
+        assert!(!told.ledger.wel);
+        told.agreed(Act::Up, 0);
+        assert_eq!(told.entered(&[0x01, 0x00], 0), []);
+        assert_eq!(told.ledger.bp, 0b11);
+    }
+}
+
+#[test]
+fn the_ledgers_own_up() {
+    // 02 Latch: it clears WEL; only a ledger that did not start fresh has it set with power off.
+    let mut ledger = Ledger::new(2);
+    (ledger.power, ledger.wel) = (false, true);
+    let off = ledger.clone();
+    ledger.feed(Act::Up, 1, 0);
+    assert_eq!(ledger, off);
+    ledger.feed(Act::Up, 0, 0);
+    assert_eq!(ledger, Ledger::new(2));
+}
+
+#[test]
+fn a_protected_write_by_the_ledger() {
+    // Told by hand: BP 11, an enable, a protected write, then SRWRITE 00h without a new enable.
+    let mut ledger = Ledger::new(1);
+    let mut frame = |bytes: &[u64]| {
+        ledger.feed(Act::Select, 0, 0);
+        bytes.iter().for_each(|&byte| ledger.feed(Act::Byte, byte, 0));
+        ledger.feed(Act::End, 0, 0);
+        let ticks = if ledger.cycle.is_some() { 164 } else { 200 };
+        ledger.feed(Act::Wait, 200, ticks);
+        (ledger.wel, ledger.bp, ledger.entries.len())
+    };
+    assert_eq!(frame(&[0x06]), (true, 0, 0));
+    assert_eq!(frame(&[0x01, 0x0C]), (false, 0b11, 0));
+    assert_eq!(frame(&[0x06]), (true, 0b11, 0));
+    assert_eq!(frame(&[0x02, 0x00, 0x11]), (true, 0b11, 0));
+    assert_eq!(frame(&[0x01, 0x00]), (false, 0b00, 0));
+    assert_eq!(frame(&[0x02, 0x00, 0x11]), (false, 0b00, 0));
+    assert_eq!(frame(&[0x06]), (true, 0b00, 0));
+    assert_eq!(frame(&[0x02, 0x00, 0x11]), (false, 0b00, 1));
+    assert_eq!(ledger.byte_at(Memory::Eeprom, 0x00), 0x11);
 }

@@ -248,11 +248,11 @@ fn a_write_is_carried_when() {
     assert_eq!((rig.eeprom[0x10], rig.device.wel), (0xFF, true));
     assert_eq!(rig.wait(1), 1);
     assert_eq!((rig.eeprom[0x10], rig.device.wel), (0x01, false));
-    // 01 Frames: not with bits over.
+    // 01 Frames: not with bits over. 02 Latch: WEL stays.
+    rig.enable();
     for leftover in 1..=7 {
-        rig.enable();
         rig.frame_with(&base, leftover);
-        assert_eq!((rig.device.countdown, rig.device.wel), (0, false));
+        assert_eq!((rig.device.countdown, rig.device.wel), (0, true));
     }
 }
 
@@ -272,15 +272,13 @@ fn writes_without_data_keep_wel() {
 
 #[test]
 fn status_write_takes_exactly_one_byte() {
-    // 01 Frames: SRWRITE wants one data byte, neither none nor two.
+    // 01 Frames: SRWRITE wants one data byte, neither none nor two. 02 Latch: WEL stays.
     let mut rig = Rig::new(W2K);
     rig.enable();
     rig.frame(&[0x01, 0x0C, 0x0C]);
-    assert_eq!((rig.device.countdown, rig.device.wel), (0, false));
-    rig.enable();
+    assert_eq!((rig.device.countdown, rig.device.wel), (0, true));
     rig.frame_with(&[0x01, 0x0C], 3);
-    assert_eq!((rig.device.countdown, rig.device.wel), (0, false));
-    rig.enable();
+    assert_eq!((rig.device.countdown, rig.device.wel), (0, true));
     rig.frame(&[0x01, 0x0C]);
     assert_eq!(rig.wait(1_000), 164);
     assert_eq!((rig.device.protection, rig.device.wel), (Protection::All, false));
@@ -307,8 +305,8 @@ fn protection() {
         }
         for address in protected {
             assert!(!rig.eeprom_write(address, &[1]), "{bp:02b} {address:02X}h");
-            // 01 Frames: data, but no cycle: WEL is lost.
-            assert!(!rig.device.wel);
+            // 02 Latch: data, but no cycle: WEL stays.
+            assert!(rig.device.wel);
         }
     }
     // Protection does not reach the ID bytes.
@@ -489,10 +487,10 @@ fn which_frames_close_the_lock() {
 #[test]
 fn id_write() {
     let mut rig = Rig::new(W1K);
-    // Locked: no cycle, and WEL clears.
+    // Locked: no cycle, and WEL stays.
     rig.enable();
     rig.frame(&[0x32, 0x00, 0x01]);
-    assert_eq!((rig.device.countdown, rig.device.wel), (0, false));
+    assert_eq!((rig.device.countdown, rig.device.wel), (0, true));
     // Open: the write is judged first, then its frame closes the lock.
     rig.unlock();
     rig.enable();
@@ -513,6 +511,7 @@ fn id_write() {
     rig.frame(&[0x32, 0x00, 0x01]);
     assert_eq!(rig.device.countdown, 0);
     // Without WEL: no, and the lock is used up.
+    rig.frame(&[0x04]);
     rig.unlock();
     rig.frame(&[0x32, 0x00, 0x01]);
     assert_eq!((rig.device.countdown, rig.device.lock), (0, Lock::Closed));
