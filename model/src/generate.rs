@@ -1,7 +1,8 @@
 //! Random tapes that reach deep states: whole scenes (an unlock and an ID write, a time about to
 //! carry into an alarm, a cut in the middle of a cycle), disturbed now and then by a wait, a bad
-//! line, a refused act, a missing line or a cut. There are two kinds, with scenes of their own.
+//! line, a refused act, a missing line or a cut. There are three kinds, with scenes of their own.
 
+mod latch;
 mod power;
 
 use crate::calendar;
@@ -62,6 +63,12 @@ pub fn tape(seed: u64, lines: u64) -> Vec<u8> {
 /// A tape for the time-stamps: power fails and comes back often. `seed % 4` chooses the part.
 pub fn power_tape(seed: u64, lines: u64) -> Vec<u8> {
     of_scenes(seed, lines, Writer::power_scene)
+}
+
+/// A tape for WEL: writes that come to nothing, then one that is carried, under one enable.
+/// `seed % 4` chooses the part.
+pub fn latch_tape(seed: u64, lines: u64) -> Vec<u8> {
+    of_scenes(seed, lines, Writer::latch_scene)
 }
 
 fn of_scenes(seed: u64, lines: u64, scene: fn(&mut Writer)) -> Vec<u8> {
@@ -160,11 +167,16 @@ impl Writer {
         self.wait(ticks);
     }
 
-    fn frame(&mut self, bytes: &[u8]) {
+    /// A frame without its end.
+    fn open(&mut self, bytes: &[u8]) {
         self.act("select", 0);
         for &byte in bytes {
             self.act("byte", u64::from(byte));
         }
+    }
+
+    fn frame(&mut self, bytes: &[u8]) {
+        self.open(bytes);
         let leftover = if self.random.once_in(14) { 1 + self.random.below(7) } else { 0 };
         self.act("end", leftover);
     }

@@ -1,6 +1,7 @@
 //! `model` answers the tape on standard input, `model FILE...` each file in turn, each starting
-//! without a part. `model --generate SEED LINES` writes a random tape, and so does `model
-//! --generate-power SEED LINES`, one whose power fails often.
+//! without a part. `model --generate SEED LINES` writes a random tape, and so do `model
+//! --generate-power SEED LINES`, one whose power fails often, and `model --generate-latch SEED
+//! LINES`, one with writes that come to nothing.
 
 use std::ffi::OsString;
 use std::fs::File;
@@ -13,8 +14,11 @@ use model::tape::Tape;
 /// Makes a tape of seed and lines.
 type Generator = fn(u64, u64) -> Vec<u8>;
 
-const GENERATORS: [(&str, Generator); 2] =
-    [("--generate", generate::tape), ("--generate-power", generate::power_tape)];
+const GENERATORS: [(&str, Generator); 3] = [
+    ("--generate", generate::tape),
+    ("--generate-power", generate::power_tape),
+    ("--generate-latch", generate::latch_tape),
+];
 
 /// Answers all lines that have arrived before it reads on.
 fn run(mut input: impl Read, output: &mut impl Write) -> io::Result<()> {

@@ -1,16 +1,19 @@
-//! The random tapes: the same for a seed, as long as asked for, and what power tapes reach.
+//! The random tapes: the same for a seed, as long as asked for, and what power and latch tapes
+//! reach.
 
 mod common;
+use std::collections::BTreeMap;
+
 use common::*;
 use model::calendar::from_bcd;
 use model::chip::{Bytes, Device, Frame};
-use model::generate::{power_tape, tape};
+use model::generate::{latch_tape, power_tape, tape};
 use model::tape::{answers, parse, Op};
 use model::Act;
 
 #[test]
 fn seeds_and_lines() {
-    for made in [tape, power_tape] {
+    for made in [tape, power_tape, latch_tape] {
         for seed in 0..8 {
             let tape = made(seed, 1_000);
             assert_eq!(tape, made(seed, 1_000));
@@ -20,6 +23,8 @@ fn seeds_and_lines() {
         assert_ne!(made(0, 50), made(4, 50));
     }
     assert_ne!(tape(0, 50), power_tape(0, 50));
+    assert_ne!(tape(0, 50), latch_tape(0, 50));
+    assert_ne!(power_tape(0, 50), latch_tape(0, 50));
 }
 
 #[test]
@@ -31,6 +36,7 @@ fn tapes_that_are_kept() {
         ("mixed_b_2k", tape(3, 3_000)),
         ("mixed_power", power_tape(2, 3_000)),
         ("mixed", tape(1, 30_000)),
+        ("mixed_latch", latch_tape(4, 3_000)),
     ] {
         let folder = concat!(env!("CARGO_MANIFEST_DIR"), "/../crates/mcp795/data");
         let kept = std::fs::read(format!("{folder}/{name}.tape")).unwrap();
@@ -38,13 +44,19 @@ fn tapes_that_are_kept() {
     }
 }
 
-/// What the acts of power tapes met, by name and how often.
+/// What the acts of tapes met, by name and how often.
 #[derive(Default)]
-struct Met(std::collections::BTreeMap<&'static str, u64>);
+struct Met(BTreeMap<&'static str, u64>);
 
 impl Met {
     fn count(&mut self, name: &'static str, met: bool) {
         *self.0.entry(name).or_default() += u64::from(met);
+    }
+
+    /// Nothing was met less than ten times.
+    fn often(&self) {
+        let seldom: Vec<_> = self.0.iter().filter(|&(_, &count)| count < 10).collect();
+        assert!(seldom.is_empty(), "{seldom:?} of {:#?}", self.0);
     }
 
     fn cut(&mut self, before: &Device) {
@@ -122,6 +134,107 @@ fn what_power_tapes_reach() {
             }
         }
     }
-    let seldom: Vec<_> = met.0.iter().filter(|&(_, &count)| count < 10).collect();
-    assert!(seldom.is_empty(), "{seldom:?} of {:#?}", met.0);
+    met.often();
+}
+
+/// Why a write with WEL and data starts no cycle.
+const REASONS: [&str; 6] = [
+    "a protected page",
+    "a closed lock",
+    "EEWRITE with bits over",
+    "IDWRITE with bits over",
+    "SRWRITE with bits over",
+    "SRWRITE of two bytes or more",
+];
+
+/// The writes that came to nothing since WEL was set, and what came after them.
+#[derive(Default)]
+struct Latch {
+    /// By reason, and whether STATUS was read since.
+    idle: BTreeMap<&'static str, bool>,
+    carried: Met,
+    carried_after_a_look: Met,
+    others: Met,
+}
+
+impl Latch {
+    fn new() -> Latch {
+        let mut latch = Latch::default();
+        for reason in REASONS {
+            latch.carried.count(reason, false);
+            latch.carried_after_a_look.count(reason, false);
+        }
+        latch
+    }
+
+    /// A heard frame has come to its end.
+    fn end(&mut self, code: u8, bytes: Bytes, leftover: u64, before: &Device, after: &Device) {
+        let one = bytes == Bytes::One;
+        let data = match code {
+            0x01 => !one,
+            0x02 | 0x32 => bytes == Bytes::More,
+            _ => false,
+        };
+        if data && before.wel && after.countdown > 0 {
+            for (reason, looked) in std::mem::take(&mut self.idle) {
+                self.carried.count(reason, true);
+                self.carried_after_a_look.count(reason, looked);
+            }
+        } else if data && before.wel {
+            let reason = match (leftover, code) {
+                (0, 0x02) => REASONS[0],
+                (0, 0x32) => REASONS[1],
+                (_, 0x02) => REASONS[2],
+                (_, 0x32) => REASONS[3],
+                (1.., _) => REASONS[4],
+                (0, _) => REASONS[5],
+            };
+            self.idle.insert(reason, false);
+        }
+        let idle = !self.idle.is_empty();
+        let whole = one && leftover == 0;
+        self.others.count("EEWREN once more", code == 0x06 && whole && idle);
+        self.others.count("EEWRDI", code == 0x04 && whole && idle);
+        self.others.count("EEWRDI that is too long", code == 0x04 && !whole && idle);
+        self.others.count("a write without data", !data && [1, 2, 0x32].contains(&code) && idle);
+        self.others.count("a write without WEL", data && !before.wel);
+        if code == 0x06 && whole {
+            self.idle.clear();
+        }
+    }
+
+    fn act(&mut self, act: Act, number: u64, before: &Device, after: &Device) {
+        match (act, before.frame) {
+            (Act::End, Frame::Heard { code, bytes, .. }) => {
+                self.end(code, bytes, number, before, after);
+            }
+            (Act::Byte, Frame::Heard { code: 0x05, .. }) => {
+                self.idle.values_mut().for_each(|looked| *looked = true);
+            }
+            (Act::Cut, _) => self.others.count("a cut", !self.idle.is_empty()),
+            _ => {}
+        }
+        if !after.wel {
+            self.idle.clear();
+        }
+    }
+}
+
+#[test]
+fn what_latch_tapes_reach() {
+    let mut latch = Latch::new();
+    for seed in 0..100 {
+        let mut rig = Rig::new(1 + seed % 4);
+        latch.idle.clear();
+        for line in latch_tape(seed, 400).split(|&b| b == b'\n') {
+            let Some((Op::Do(act), number)) = parse(line) else { continue };
+            let before = rig.device.clone();
+            if rig.act(act, number).number == 0 {
+                latch.act(act, number, &before, &rig.device);
+            }
+        }
+    }
+    latch.carried.often();
+    latch.carried_after_a_look.often();
+    latch.others.often();
 }
