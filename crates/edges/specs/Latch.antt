@@ -2,14 +2,14 @@
 -- up of the sheet's list, and after what is not in it. BP is 01 throughout, so STATUS is 04h with WEL clear, 06h with WEL set.
 -- Assumes nothing.
 use Prim.Native.Nat.{ℕ}
-use mathlib.Core.Path.{_≡_, refl}
+use mathlib.Core.Path.{_≡_}
 use mathlib.Core.Bool.{Bool, true, false}
 use mathlib.Core.List.{List, [], _∷_}
 use lib.ListN.{set}
 use Rattle.base.specs.Wait.{waitedBy}
 use Rattle.base.specs.Words.{every, members, storeUnder}
 use Rattle.record.specs.declared.Act.{Act}
-use Rattle.record.specs.declared.Act.the-variants.{Select, Byte, End, Wait, Cut, Up}
+use Rattle.record.specs.declared.Act.the-variants.{Select, End, Wait, Cut, Up}
 use Rattle.record.specs.declared.Protection.the-variants.{Quarter}
 use Rattle.record.specs.declared.Reply.{Reply}
 use Rattle.record.specs.declared.Reply.the-variants.{Driven}
@@ -34,8 +34,8 @@ use Rattle.ends.specs.Write.{carried, cycleAfter, welAfter}
 use Rattle.ends.specs.End.{afterEnd}
 use Rattle.power.specs.Power.{afterCut, cutCount, cutWorld, afterUp}
 use Rattle.acts.specs.Act.{performed}
-use Rattle.run.specs.Claim.{Input, ourChip, worldAfter}
-use Rattle.run.specs.Script.{sent, raggedFrame, frameOf}
+use Rattle.run.specs.Claim.{ourChip, worldAfter}
+use Rattle.run.specs.Script.{sent, raggedFrame}
 use Rattle.edges.specs.Scene.{after, bytesAnswered, afterBytes, replies, lent}
 
 -- a 1 Kbit chip whose last quarter, from 60h, is protected, with WEL so and a cycle of so many ticks

@@ -1,7 +1,7 @@
 -- How an end moves WEL, in both directions: it clears it exactly at the end of EEWRDI alone, and sets it exactly at that of EEWREN alone.
 -- Assumes nothing.
 use Prim.Native.Nat.{ℕ}
-use mathlib.Core.Path.{_≡_, refl, sym, ap, _∙_}
+use mathlib.Core.Path.{_≡_, refl, ap, _∙_}
 use mathlib.Core.Bool.{true, false, _&&_, true≢false, false≢true}
 use mathlib.Core.Logic.{_↔_}
 use borrow.Author.Tests.{eqb-true}

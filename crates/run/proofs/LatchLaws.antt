@@ -3,14 +3,14 @@
 use Prim.Native.Nat.{ℕ, suc, _<_, _≤_}
 use native.Mathlib.Omega.{arith}
 use mathlib.Core.Path.{_≡_, refl, sym, ap, subst, _∙_}
-use mathlib.Core.Bool.{Bool, true, false, not, _&&_, true≢false, false≢true}
+use mathlib.Core.Bool.{true, false, _&&_, true≢false, false≢true}
 use mathlib.Core.Logic.{_↔_}
 use mathlib.Core.List.{List, [], _∷_}
 use borrow.Author.Tests.{ltb-true, ltb-false, leb-true, le-ltb, lt-ltb, le-leb, not-false}
 use lib.Dec.{leb, ltb}
 use lib.ListN.{length}
 use Rattle.base.specs.Wait.{Waited}
-use Rattle.base.proofs.Tests.{by-cases, pick-same, both-left, both-right, both-true}
+use Rattle.base.proofs.Tests.{by-cases, both-left, both-right, both-true}
 use Rattle.record.specs.declared.Act.{Act}
 use Rattle.record.specs.declared.Act.the-variants.{Select, Byte, End, Wait, Cut, Up}
 use Rattle.record.specs.declared.Code.{Code}
@@ -18,14 +18,13 @@ use Rattle.record.specs.declared.Code.the-variants.{Eewrdi, Eewren, Other, Srre
 use Rattle.record.specs.declared.Cycle.{Cycle}
 use Rattle.record.specs.declared.Device.{Device}
 use Rattle.record.specs.declared.Guard.{Guard}
-use Rattle.record.specs.declared.Stage.{Stage}
 use Rattle.record.specs.declared.Stage.the-variants.{Opened, Instruction}
 use Rattle.record.specs.Codes.{codeNumber, isCode, heardUnderWip}
 use Rattle.record.specs.Part.{topOf, bootsOf}
 use Rattle.record.specs.Stages.{selected}
 use Rattle.record.specs.World.{World, Bytes}
 use Rattle.refusals.specs.InRange.{InRange}
-use Rattle.refusals.specs.Refusal.{setupRefusal}
+use Rattle.refusals.specs.Refusal.{wrongArg, wrongPower, wrongSelect, setupRefusal}
 use Rattle.refusals.proofs.RangeLaws.{in-range}
 use Rattle.refusals.proofs.TableLaws as table
 use Rattle.ticks.specs.Lines.{wip}
@@ -37,7 +36,6 @@ use Rattle.frames.proofs.AloneLaws.{stagesAfter, alone-exactly}
 use Rattle.frames.proofs.FrameLaws.{written-beside, stage-selected}
 use Rattle.ends.specs.End.{afterEnd}
 use Rattle.ends.proofs.LatchLaws.{end-cleared, end-set}
-use Rattle.power.specs.Power.{afterUp}
 use Rattle.power.proofs.PowerLaws.{cut-device, cut-wel, up-wel}
 use Rattle.acts.specs.Act.{Outcome, accepted, refusalIn, performed}
 use Rattle.acts.proofs.OutcomeLaws.{answered-by-table, by-acceptance, changed-by, done-as}
@@ -184,27 +182,18 @@ record InFrame (part : ℕ) (v : World) : Type 0 where
   power : v .device .power ≡ true
   chosen : selected (v .device .frame .stage) ≡ true
 
--- an end and a byte in it are done
-end-done : (part leftover : ℕ) (v : World) → leftover < 8 → InFrame part v → performed part End leftover v ≡ accepted part leftover v End
-end-done part leftover v h f =
-    by-acceptance part End leftover v
-    (table.passed part End leftover (v .device) _ _
+-- an act of a frame in it is done
+frame-done :
+    (part : ℕ) (act : Act) (arg : ℕ) (v : World) → wrongArg act arg ≡ false → wrongPower act true ≡ false → wrongSelect act true ≡ 0 → InFrame part v
+    → performed part act arg v ≡ accepted part arg v act
+frame-done part act arg v a p s f =
+    by-acceptance part act arg v
+    (table.passed part act arg (v .device) _ _
     (record {
       setup = table.setup-passed part (v .device) _ _ (f .setup);
-      arg = le-ltb 7 leftover (omega arith);
-      power = rw (f .power);
-      select = rw (f .chosen);
-    }))
-
-byte-done : (part b : ℕ) (v : World) → b < 256 → InFrame part v → performed part Byte b v ≡ accepted part b v Byte
-byte-done part b v h f =
-    by-acceptance part Byte b v
-    (table.passed part Byte b (v .device) _ _
-    (record {
-      setup = table.setup-passed part (v .device) _ _ (f .setup);
-      arg = le-ltb 255 b (omega arith);
-      power = rw (f .power);
-      select = rw (f .chosen);
+      arg = a;
+      power = ap (wrongPower act) (f .power) ∙ p;
+      select = ap (wrongSelect act) (f .chosen) ∙ s;
     }))
 
 -- what a byte leaves of power, cycle and stage
@@ -234,12 +223,12 @@ sent-ends part leftover h [] v z f =
       last = v .device;
       wel = refl;
       stage = refl;
-      after = ap (λ (o : Outcome). o .after .device) (end-done part leftover v h f);
+      after = ap (λ (o : Outcome). o .after .device) (frame-done part End leftover v (le-ltb 7 leftover (omega arith)) refl refl f);
     }
 sent-ends part leftover h (b ∷ bs) v z f =
     let y : World = performed part Byte b v .after in
     let m : ByteLeft part b (v .device) (y .device) =
-    subst (λ (o : Outcome). ByteLeft part b (v .device) (o .after .device)) (sym (byte-done part b v (z 0) f)) (byte-left part b (v .device)) in
+    subst (λ (o : Outcome). ByteLeft part b (v .device) (o .after .device)) (sym (frame-done part Byte b v (le-ltb 255 b (omega (arith, z 0))) refl refl f)) (byte-left part b (v .device)) in
     let e =
     sent-ends part leftover h bs y (λ k. z (suc k))
     (record {
