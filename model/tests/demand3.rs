@@ -125,7 +125,7 @@ fn acts_with_many_cuts() {
 }
 
 #[test]
-fn acts_with_many_idle_writes() {
+fn acts_with_many_failed_writes() {
     let (mut acts, mut entries) = (0, 0);
     for seed in 0..100 {
         let (a, e) = run(seed, &generate::latch_tape(seed, 1_000));

@@ -260,11 +260,12 @@ fn a_write_is_carried_when() {
 fn writes_without_data_keep_wel() {
     // 01 Frames: a write wants data; without any no cycle starts and WEL stays.
     let mut rig = Rig::new(W2K);
-    rig.unlock();
     rig.enable();
     for frame in [&[0x02][..], &[0x02, 0x10], &[0x32], &[0x32, 0x01], &[0x01]] {
+        rig.unlock();
         rig.frame(frame);
         assert_eq!((rig.device.countdown, rig.device.wel), (0, true), "{frame:02X?}");
+        rig.unlock();
         rig.frame_with(frame, 5);
         assert_eq!((rig.device.countdown, rig.device.wel), (0, true), "{frame:02X?}");
     }

@@ -151,7 +151,7 @@ const REASONS: [&str; 6] = [
 #[derive(Default)]
 struct Latch {
     /// By reason, and whether STATUS was read since.
-    idle: BTreeMap<&'static str, bool>,
+    failed: BTreeMap<&'static str, bool>,
     carried: Met,
     carried_after_a_look: Met,
     others: Met,
@@ -176,7 +176,7 @@ impl Latch {
             _ => false,
         };
         if data && before.wel && after.countdown > 0 {
-            for (reason, looked) in std::mem::take(&mut self.idle) {
+            for (reason, looked) in std::mem::take(&mut self.failed) {
                 self.carried.count(reason, true);
                 self.carried_after_a_look.count(reason, looked);
             }
@@ -189,17 +189,17 @@ impl Latch {
                 (1.., _) => REASONS[4],
                 (0, _) => REASONS[5],
             };
-            self.idle.insert(reason, false);
+            self.failed.insert(reason, false);
         }
-        let idle = !self.idle.is_empty();
+        let failed = !self.failed.is_empty();
         let whole = one && leftover == 0;
-        self.others.count("EEWREN once more", code == 0x06 && whole && idle);
-        self.others.count("EEWRDI", code == 0x04 && whole && idle);
-        self.others.count("EEWRDI that is too long", code == 0x04 && !whole && idle);
-        self.others.count("a write without data", !data && [1, 2, 0x32].contains(&code) && idle);
+        self.others.count("EEWREN once more", code == 0x06 && whole && failed);
+        self.others.count("EEWRDI", code == 0x04 && whole && failed);
+        self.others.count("EEWRDI that is too long", code == 0x04 && !whole && failed);
+        self.others.count("a write without data", !data && [1, 2, 0x32].contains(&code) && failed);
         self.others.count("a write without WEL", data && !before.wel);
         if code == 0x06 && whole {
-            self.idle.clear();
+            self.failed.clear();
         }
     }
 
@@ -209,13 +209,13 @@ impl Latch {
                 self.end(code, bytes, number, before, after);
             }
             (Act::Byte, Frame::Heard { code: 0x05, .. }) => {
-                self.idle.values_mut().for_each(|looked| *looked = true);
+                self.failed.values_mut().for_each(|looked| *looked = true);
             }
-            (Act::Cut, _) => self.others.count("a cut", !self.idle.is_empty()),
+            (Act::Cut, _) => self.others.count("a cut", !self.failed.is_empty()),
             _ => {}
         }
         if !after.wel {
-            self.idle.clear();
+            self.failed.clear();
         }
     }
 }
@@ -225,7 +225,7 @@ fn what_latch_tapes_reach() {
     let mut latch = Latch::new();
     for seed in 0..100 {
         let mut rig = Rig::new(1 + seed % 4);
-        latch.idle.clear();
+        latch.failed.clear();
         for line in latch_tape(seed, 400).split(|&b| b == b'\n') {
             let Some((Op::Do(act), number)) = parse(line) else { continue };
             let before = rig.device.clone();

@@ -162,7 +162,7 @@ fn after_a_status_of_two_bytes() {
 }
 
 #[test]
-fn one_enable_for_many() {
+fn one_enable_for_many_failed_writes() {
     // All four, several times over; the enable lasts until a write is carried, and no longer.
     let mut rig = Rig::new(W2K);
     rig.protect(0b10);
@@ -180,9 +180,9 @@ fn one_enable_for_many() {
 
 #[test]
 fn without_an_enable() {
-    // None of the four sets what was clear: a good write after them has no cycle.
+    // None of these sets what was clear: a good write after them has no cycle.
     let nothing: [(&[u8], u64); 5] = [
-        (&[0x02, 0xC0, 0x11], 0),
+        (&[0x02, 0xE0, 0x11], 0),
         (&[0x32, 0x00, 0x11], 0),
         (&[0x02, 0x00, 0x11], 1),
         (&[0x01, 0x00, 0x00], 0),
@@ -191,9 +191,9 @@ fn without_an_enable() {
     for part in PARTS {
         for (bytes, leftover) in nothing {
             let mut rig = Rig::new(part);
-            rig.protect(0b11);
+            rig.protect(0b01);
             comes_to_nothing(&mut rig, bytes, leftover);
-            assert_eq!(rig.status(), 0b1100);
+            assert_eq!(rig.status(), 0b0100);
             comes_to_nothing(&mut rig, &[0x01, 0x00], 0);
             rig.unlock();
             comes_to_nothing(&mut rig, &[0x32, 0x00, 0x22], 0);

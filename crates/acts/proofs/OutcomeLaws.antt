@@ -77,9 +77,12 @@ changed-by f Q part act arg w q n =
     ))
     (λ t. absurd (n (ap (λ (o : Outcome). f (o .after)) (by-refusal part act arg w t))))
 
--- an act that is done, as the accepted one
+-- an act that is done was passed by the table, and is the accepted one
+pub done-passed : (part : ℕ) (act : Act) (arg : ℕ) (w : World) → performed part act arg w .number ≡ 0 → refusalIn part act arg w ≡ 0
+done-passed part act arg w e = sym (answered-by-table part act arg w) ∙ e
+
 pub done-as : (part : ℕ) (act : Act) (arg : ℕ) (w : World) → performed part act arg w .number ≡ 0 → performed part act arg w ≡ accepted part arg w act
-done-as part act arg w e = by-acceptance part act arg w (sym (answered-by-table part act arg w) ∙ e)
+done-as part act arg w e = by-acceptance part act arg w (done-passed part act arg w e)
 
 -- number 7 is the tape's: no act is answered with it
 last-below : (act : Act) (sel : Bool) → wrongSelect act sel < 7

@@ -56,6 +56,10 @@ cut-follows part mask w r =
     let m = cut-memories (AsLong (w .eeprom)) (AsLong (w .id)) mask w refl (page-length l mask (w .eeprom)) refl (page-length l mask (w .id)) in
     record { range = subst (InRange part) (sym (cut-device mask w)) (cut-in-range part mask (w .device) r); eeprom = m .0; id = m .1 }
 
+-- an act that the table passes finds a record in range
+pub passed-range : (part : ℕ) (act : Act) (arg : ℕ) (w : World) → refusalIn part act arg w ≡ 0 → InRange part (w .device)
+passed-range part act arg w e = in-range part (w .device) (table.accepted part act arg (w .device) _ _ e .setup .ranged)
+
 -- an accepted act; those of a frame find power on
 pub accepted-follows :
     (part : ℕ) (act : Act) (arg : ℕ) (w : World) → InRange part (w .device) → refusalIn part act arg w ≡ 0

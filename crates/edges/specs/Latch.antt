@@ -1,5 +1,5 @@
--- Closed witnesses of the latch, on records that are written out, through `performed`: what STATUS is answered after each frame, cycle's end, cut and
--- up of the sheet's list, and after what is not in it. BP is 01 throughout, so STATUS is 04h with WEL clear, 06h with WEL set.
+-- Closed witnesses of the latch, on records that are written out, through `performed`: what STATUS is answered after each act that resets it, a cut
+-- apart, where WEL is looked up in the record, and after what does not. BP is 01 throughout: with no cycle STATUS is 04h with WEL clear, 06h with WEL set.
 -- Assumes nothing.
 use Prim.Native.Nat.{ℕ}
 use mathlib.Core.Path.{_≡_}
@@ -10,6 +10,7 @@ use Rattle.base.specs.Wait.{waitedBy}
 use Rattle.base.specs.Words.{every, members, storeUnder}
 use Rattle.record.specs.declared.Act.{Act}
 use Rattle.record.specs.declared.Act.the-variants.{Select, End, Wait, Cut, Up}
+use Rattle.record.specs.declared.Lock.the-variants.{Open}
 use Rattle.record.specs.declared.Protection.the-variants.{Quarter}
 use Rattle.record.specs.declared.Reply.{Reply}
 use Rattle.record.specs.declared.Reply.the-variants.{Driven}
@@ -17,7 +18,7 @@ use Rattle.record.specs.declared.Target.{Target}
 use Rattle.record.specs.declared.Target.the-variants.{Eeprom, Id, Status}
 use Rattle.record.specs.Fresh.{fresh}
 use Rattle.record.specs.Scene.{chip, started}
-use Rattle.record.specs.Setters.{counts, withPower, withWel, withProtection, withCycle}
+use Rattle.record.specs.Setters.{counts, withPower, withWel, withProtection, withLock, withCycle}
 use Rattle.record.specs.Stamps.{stamped, unstamped}
 use Rattle.record.specs.World.{World, moved}
 use Rattle.refusals.specs.Range.{outOfRange, clockOut, frameOut, cycleOut, powerOut, bitOutside}
@@ -48,6 +49,10 @@ enabled = latched started true (Eeprom (record { 0 = 0 })) 0
 abbrev disabled : World
 disabled = latched started false (Eeprom (record { 0 = 0 })) 0
 
+-- each with the lock open
+abbrev unlocked : World → World
+unlocked w = moved w (withLock (w .device) Open)
+
 -- the first with power off, which only a record from elsewhere can have
 abbrev enabledOff : World
 enabledOff = moved enabled (withPower (enabled .device) false)
@@ -71,12 +76,13 @@ LatchShown =
     -- F26, F30. a protected page; the last page that is free starts its cycle, WEL still set
     (statusAfter (0x02 ∷ 0x60 ∷ 1 ∷ []) enabled ≡ answered 0x06)
     × (statusAfter (0x02 ∷ 0x58 ∷ 1 ∷ []) enabled ≡ answered 0x07)
-    -- F27, F30. a lock that is not open
+    -- F27, F30. a lock that is not open; an open one lets the cycle start
     × (statusAfter (0x32 ∷ 0 ∷ 1 ∷ []) enabled ≡ answered 0x06)
+    × (statusAfter (0x32 ∷ 0 ∷ 1 ∷ []) (unlocked enabled) ≡ answered 0x07)
     -- F25, F30. leftover bits, 1 and 7, after the data of each write
     × (raggedStatus 1 (0x02 ∷ 0 ∷ 1 ∷ []) enabled ≡ answered 0x06)
     × (raggedStatus 7 (0x02 ∷ 0 ∷ 1 ∷ []) enabled ≡ answered 0x06)
-    × (raggedStatus 7 (0x32 ∷ 0 ∷ 1 ∷ []) enabled ≡ answered 0x06)
+    × (raggedStatus 7 (0x32 ∷ 0 ∷ 1 ∷ []) (unlocked enabled) ≡ answered 0x06)
     × (raggedStatus 7 (0x01 ∷ 0 ∷ []) enabled ≡ answered 0x06)
     -- F24, F30. SRWRITE with two data bytes, and three; no data at all
     × (statusAfter (0x01 ∷ 0 ∷ 0 ∷ []) enabled ≡ answered 0x06)
@@ -84,8 +90,9 @@ LatchShown =
     × (statusAfter (0x01 ∷ []) enabled ≡ answered 0x06)
     × (statusAfter (0x02 ∷ 0 ∷ []) enabled ≡ answered 0x06)
     × (statusAfter (0x32 ∷ 0 ∷ []) enabled ≡ answered 0x06)
-    -- F23, F30. with WEL clear no write sets it
+    -- F23, F30. with WEL clear no write sets it, nor starts a cycle
     × (statusAfter (0x02 ∷ 0 ∷ 1 ∷ []) disabled ≡ answered 0x04)
+    × (statusAfter (0x32 ∷ 0 ∷ 1 ∷ []) (unlocked disabled) ≡ answered 0x04)
     × (statusAfter (0x01 ∷ 0 ∷ []) disabled ≡ answered 0x04)
     -- F19. EEWRDI: eight bits; a second byte, a leftover bit, a cycle that runs
     × (statusAfter (0x04 ∷ []) enabled ≡ answered 0x04)

@@ -1,4 +1,4 @@
--- Closed runs of the ledger, from its start but for one, worked by hand from the rules: the bytes or the BP that each leaves, under one statement.
+-- Closed runs of the ledger, from its start but for one, worked by hand from the rules: the bytes, BP or WEL that each leaves, under one statement.
 -- They show that the ledger is not empty. They say nothing of a chip, and no rule stands here: codes are written as on the wire.
 -- Assumes nothing.
 use mathlib.Core.Path.{_≡_}
@@ -87,8 +87,10 @@ ClosedRuns =
     (eepromAfter 2 wholeCase (0x07 ∷ 0x00 ∷ 0x06 ∷ 0x01 ∷ 0x08 ∷ []) ≡ 18 ∷ 52 ∷ 255 ∷ 255 ∷ 255 ∷ [])
     -- L7, A34. The same with refused acts between.
     × (eepromAfter 2 refusedBetween (0x07 ∷ 0x00 ∷ 0x01 ∷ []) ≡ 18 ∷ 52 ∷ 255 ∷ [])
-    -- F23. The enable is forgotten.
+    -- F23. The enable is forgotten, of each of the three writes.
     × (eepromAfter 2 (write 0x00 (1 ∷ []) ++ idle) (0x00 ∷ []) ≡ 255 ∷ [])
+    × (idAfter 2 (unlock 0x55 ++ unlock 0xaa ++ idWrite 0x05 (1 ∷ []) ++ idle) (0x05 ∷ []) ≡ 255 ∷ [])
+    × (bpFound 2 (status 0x0c ++ idle) ≡ 0)
     -- F19. An enable with a second byte, or with three bits more, is none.
     × (eepromAfter 2 (frame (0x06 ∷ 0x00 ∷ []) ++ write 0x00 (1 ∷ []) ++ idle) (0x00 ∷ []) ≡ 255 ∷ [])
     × (eepromAfter 2 (ragged 3 (0x06 ∷ []) ++ write 0x00 (1 ∷ []) ++ idle) (0x00 ∷ []) ≡ 255 ∷ [])
@@ -96,13 +98,16 @@ ClosedRuns =
     × (eepromAfter 2 (enable ++ frame (0x04 ∷ []) ++ write 0x00 (1 ∷ []) ++ idle) (0x00 ∷ []) ≡ 255 ∷ [])
     -- F25, F30, E18. Seven bits more after the data: no cycle, and WEL stays set for the write that follows.
     × (eepromAfter 2 (enable ++ ragged 7 (0x02 ∷ 0x00 ∷ 1 ∷ []) ++ write 0x01 (2 ∷ []) ++ ends) (0x00 ∷ 0x01 ∷ []) ≡ 255 ∷ 2 ∷ [])
-    -- F24, F30. The same of an address and no data, and of SRWRITE with two data bytes.
+    -- F25. They start no cycle of IDWRITE with the lock open either, nor of SRWRITE.
+    × (idAfter 2 (unlock 0x55 ++ unlock 0xaa ++ enable ++ ragged 7 (0x32 ∷ 0x05 ∷ 1 ∷ []) ++ idle) (0x05 ∷ []) ≡ 255 ∷ [])
+    × (bpFound 2 (enable ++ ragged 7 (0x01 ∷ 0x0c ∷ []) ++ idle) ≡ 0)
+    -- F24, F30. WEL stays too after an address and no data, and after SRWRITE with two data bytes.
     × (eepromAfter 2 (enable ++ write 0x00 [] ++ write 0x01 (2 ∷ []) ++ ends) (0x00 ∷ 0x01 ∷ []) ≡ 255 ∷ 2 ∷ [])
     × (eepromAfter 2 (enable ++ frame (0x01 ∷ 0x0c ∷ 0x0c ∷ []) ++ write 0x01 (2 ∷ []) ++ ends) (0x01 ∷ []) ≡ 2 ∷ [])
     -- F26, F30. And of a protected page: under BP 01 C0h gets nothing, and 01h is written without a new enable.
     × (eepromAfter 2 (enable ++ status 0x04 ++ ends ++ enable ++ write 0xc0 (1 ∷ []) ++ write 0x01 (2 ∷ []) ++ ends) (0xc0 ∷ 0x01 ∷ []) ≡ 255 ∷ 2 ∷ [])
     -- F27, F30. And of a lock that is not open.
-    × (eepromAfter 2 (enable ++ idWrite 0x05 (1 ∷ []) ++ write 0x01 (2 ∷ []) ++ ends) (0x05 ∷ 0x01 ∷ []) ≡ 255 ∷ 2 ∷ [])
+    × (eepromAfter 2 (enable ++ idWrite 0x05 (1 ∷ []) ++ write 0x01 (2 ∷ []) ++ ends) (0x01 ∷ []) ≡ 2 ∷ [])
     -- F19, F30. After such a write EEWRDI still takes the enable back.
     × (eepromAfter 2 (enable ++ ragged 7 (0x02 ∷ 0x00 ∷ 1 ∷ []) ++ frame (0x04 ∷ []) ++ write 0x01 (2 ∷ []) ++ idle) (0x01 ∷ []) ≡ 255 ∷ [])
     -- F21, F22, E21. A page rolls: from 0Eh the third byte goes to 08h and not to 10h; a ninth byte takes the place of the first.
@@ -122,7 +127,8 @@ ClosedRuns =
     -- P3. A status cycle that is cut goes by the mask's bit 0.
     × (bpFound 2 (enable ++ status 0x0c ++ does cut 0x01 ∷ []) ≡ 3)
     × (bpFound 2 (enable ++ status 0x0c ++ does cut 0xfe ∷ []) ≡ 0)
-    -- P6, P8. A cut takes the enable, and an open frame.
+    -- P6, P8. A cut takes the enable, as the ledger has it before any up, and an open frame.
+    × (ledgerRun 2 (enable ++ does cut 0 ∷ []) start .wel ≡ false)
     × (eepromAfter 2 (enable ++ does cut 0 ∷ does up 0 ∷ write 0x00 (1 ∷ []) ++ idle) (0x00 ∷ []) ≡ 255 ∷ [])
     × (eepromAfter 2 (enable ++ does select 0 ∷ does byte 2 ∷ does byte 0 ∷ does byte 1 ∷ does cut 255 ∷ does up 0 ∷ does end 0 ∷ idle) (0x00 ∷ []) ≡ 255 ∷ [])
     -- L15, P18. Up clears WEL, of a ledger that begins without power and with WEL set.

@@ -205,7 +205,7 @@ up-in-range part d r =
       power = record { unmarked = λ o. refl; idle = λ o. absurd (true≢false o); still = λ o. absurd (true≢false o); heard = r .power .heard };
     }
 
--- P18. So does power up, whatever it was.
+-- P18. Power up clears WEL, whatever it was.
 pub up-wel : (d : Device) → afterUp d .guard .wel ≡ false
 unfolding afterUp
 up-wel d = refl

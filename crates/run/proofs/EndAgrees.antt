@@ -79,16 +79,16 @@ module _ (load : Load) (f : ledger.Frame) where
       let none : ltb 0 (datas c) ≡ false = rw (n .1 (write-moves c w)) (pick-case (λ (k : ℕ). ltb 0 (1 - k) ≡ false) (writesPage c) refl refl) in
       record { fits = rw none; page = λ e. q .page }
 
-  fits-page : (b : Bool) (o : ℕ) → 1 < f .count → (f .count ≡ 2 → o ≡ 0) → (2 < f .count → 0 < o) → (ltb 0 (f .count - 2) && true) ≡ (not (eqb o 0) && true)
-  fits-page b o n p q = ap (λ (t : Bool). t && true) (data-count (f .count) o n p q)
+  fits-page : (o : ℕ) → 1 < f .count → (f .count ≡ 2 → o ≡ 0) → (2 < f .count → 0 < o) → (ltb 0 (f .count - 2) && true) ≡ (not (eqb o 0) && true)
+  fits-page o n p q = ap (λ (t : Bool). t && true) (data-count (f .count) o n p q)
 
   fits-eeprom : (a : EepromAddress) → Fits (Writing (EepromAt a))
   fits-eeprom a n q =
-      record { fits = fits-page true (load .offsets) n (q .none) (q .some); page = λ e. q .page }
+      record { fits = fits-page (load .offsets) n (q .none) (q .some); page = λ e. q .page }
 
   fits-id : (a : IdAddress) → Fits (Writing (IdAt a))
   fits-id a n q =
-      record { fits = fits-page true (load .offsets) n (q .none) (q .some); page = λ e. absurd (false≢true e) }
+      record { fits = fits-page (load .offsets) n (q .none) (q .some); page = λ e. absurd (false≢true e) }
 
   fits-status : (v : ℕ) → Fits (Second (StatusData v))
   fits-status v n q = record { fits = rw n; page = λ e. absurd (false≢true e) }

@@ -3,7 +3,7 @@
 use Prim.Native.Nat.{ℕ, suc, _<_, _≤_}
 use native.Mathlib.Omega.{arith}
 use mathlib.Core.Path.{_≡_, refl, sym, ap, subst, _∙_}
-use mathlib.Core.Bool.{true, false, _&&_, true≢false, false≢true}
+use mathlib.Core.Bool.{Bool, true, false, _&&_, true≢false, false≢true}
 use mathlib.Core.Logic.{_↔_}
 use mathlib.Core.List.{List, [], _∷_}
 use borrow.Author.Tests.{ltb-true, ltb-false, leb-true, le-ltb, lt-ltb, le-leb, not-false}
@@ -25,7 +25,6 @@ use Rattle.record.specs.Stages.{selected}
 use Rattle.record.specs.World.{World, Bytes}
 use Rattle.refusals.specs.InRange.{InRange}
 use Rattle.refusals.specs.Refusal.{wrongArg, wrongPower, wrongSelect, setupRefusal}
-use Rattle.refusals.proofs.RangeLaws.{in-range}
 use Rattle.refusals.proofs.TableLaws as table
 use Rattle.ticks.specs.Lines.{wip}
 use Rattle.ticks.specs.RecordTick.{ended}
@@ -38,8 +37,8 @@ use Rattle.ends.specs.End.{afterEnd}
 use Rattle.ends.proofs.LatchLaws.{end-cleared, end-set}
 use Rattle.power.proofs.PowerLaws.{cut-device, cut-wel, up-wel}
 use Rattle.acts.specs.Act.{Outcome, accepted, refusalIn, performed}
-use Rattle.acts.proofs.OutcomeLaws.{answered-by-table, by-acceptance, changed-by, done-as}
-use Rattle.acts.proofs.SuitedLaws.{performed-suited}
+use Rattle.acts.proofs.OutcomeLaws.{by-acceptance, changed-by, done-passed, done-as}
+use Rattle.acts.proofs.SuitedLaws.{passed-range, performed-suited}
 use Rattle.run.specs.Claim.{ourChip, worldAfter}
 use Rattle.run.specs.Latch.{welOf, EndsAlone, Resets, cuts, ups, disables, completes, frameSent, SentAlone, Latch}
 use Rattle.run.specs.Script.{sent}
@@ -83,9 +82,6 @@ module _ (part arg : ℕ) (w : World) where
   abbrev d : Device
   d = w .device
 
-  inside : (act : Act) → refusalIn part act arg w ≡ 0 → InRange part d
-  inside act e = in-range part d (table.accepted part act arg d _ _ e .setup .ranged)
-
   byte-same : welOf (accepted part arg w Byte .after) ≡ welOf w
   unfolding afterByte
   byte-same = ap (λ (g : Guard). g .wel) (written-beside (bootsOf part) d arg (d .frame .stage) .guard)
@@ -101,7 +97,7 @@ module _ (part arg : ℕ) (w : World) where
   told Select r on e = absurd (true≢false (sym on ∙ e))
   told Byte r on e = absurd (true≢false (sym on ∙ sym byte-same ∙ e))
   told End r on e = let l = end-cleared (topOf part) arg d on .0 e in disables (refl, l .0, l .1)
-  told Wait r on e = let a = wait-told part arg w (inside Wait r) on e in completes refl (a .0) (a .1)
+  told Wait r on e = let a = wait-told part arg w (passed-range part Wait arg w r) on e in completes refl (a .0) (a .1)
   told Cut r on e = cuts refl
   told Up r on e = ups refl
 
@@ -120,7 +116,7 @@ module _ (part arg : ℕ) (w : World) where
           → welOf (accepted part arg w a .after) ≡ false
 
       clears-wait : Clears Wait
-      clears-wait r runs all = wait-clears part arg w (inside Wait r) (runs, all)
+      clears-wait r runs all = wait-clears part arg w (passed-range part Wait arg w r) (runs, all)
 
   -- the same of what sets it
   set-told :
@@ -129,7 +125,7 @@ module _ (part arg : ℕ) (w : World) where
   set-told Select r off e = absurd (false≢true (sym off ∙ e))
   set-told Byte r off e = absurd (false≢true (sym off ∙ sym byte-same ∙ e))
   set-told End r off e = let l = end-set (topOf part) arg d off .0 e in (refl, l .0, l .1)
-  set-told Wait r off e = absurd (false≢true (sym (wait-leaves part arg w (inside Wait r) off) ∙ e))
+  set-told Wait r off e = absurd (false≢true (sym (wait-leaves part arg w (passed-range part Wait arg w r) off) ∙ e))
   set-told Cut r off e = absurd (false≢true (sym cut-clear ∙ e))
   set-told Up r off e = absurd (false≢true (sym (up-wel d) ∙ e))
 
@@ -142,9 +138,6 @@ module _ (part : ℕ) (act : Act) (arg : ℕ) (w : World) where
   passed-wel : refusalIn part act arg w ≡ 0 → welOf (accepted part arg w act .after) ≡ welOf (performed part act arg w .after)
   passed-wel r = ap (λ (o : Outcome). welOf (o .after)) (sym (by-acceptance part act arg w r))
 
-  table-zero : performed part act arg w .number ≡ 0 → refusalIn part act arg w ≡ 0
-  table-zero e = sym (answered-by-table part act arg w) ∙ e
-
   cleared-by :
       welOf w ≡ true
       → (welOf (performed part act arg w .after) ≡ false)
@@ -155,7 +148,7 @@ module _ (part : ℕ) (act : Act) (arg : ℕ) (w : World) where
         subst (λ (o : Outcome). Resets act arg (o .count) (w .device)) (sym (by-acceptance part act arg w r)) (told part arg w act r on (passed-wel r ∙ e)))
         (λ s. true≢false (sym on ∙ sym s ∙ e)),
     λ p.
-        let r = table-zero (p .0) in
+        let r = done-passed part act arg w (p .0) in
         sym (passed-wel r)
         ∙ given part arg w act r on (subst (λ (o : Outcome). Resets act arg (o .count) (w .device)) (by-acceptance part act arg w r) (p .1)),
   )
@@ -166,7 +159,7 @@ module _ (part : ℕ) (act : Act) (arg : ℕ) (w : World) where
   set-by off = (
     λ e. changed-by welOf (EndsAlone Eewren act arg (w .device)) part act arg w (λ r n. set-told part arg w act r off (passed-wel r ∙ e))
         (λ s. false≢true (sym off ∙ sym s ∙ e)),
-    λ p. sym (passed-wel (table-zero (p .0))) ∙ set-given part arg w act off (p .1),
+    λ p. sym (passed-wel (done-passed part act arg w (p .0))) ∙ set-given part arg w act off (p .1),
   )
 
 -- A frame sent whole. What its end finds: WEL as at the select, and the stage that its bytes brought.
@@ -252,7 +245,7 @@ module _ (part leftover : ℕ) (bs : List ℕ) (w : World) (e : performed part S
   opened = done-as part Select 0 w e
 
   taken : table.Accepted part Select 0 (w .device) (length (w .eeprom)) (length (w .id))
-  taken = table.accepted part Select 0 (w .device) _ _ (sym (answered-by-table part Select 0 w) ∙ e)
+  taken = table.accepted part Select 0 (w .device) _ _ (done-passed part Select 0 w e)
 
   in-frame : InFrame part v
   unfolding afterSelect
@@ -288,17 +281,18 @@ module _ (part leftover : ℕ) (bs : List ℕ) (w : World) (e : performed part S
         λ p. (stage-kept ∙ a .1 (p .0, le-ltb 0 (w .device .cycle .left) (omega (arith, p .2))), p .1),
       )
 
+  -- so a law of the end is one of the frame
+  moves :
+      (c : Code) → isCode c Other ≡ false → isCode c Srread ≡ false → heardUnderWip c ≡ false → (b : Bool)
+      → (afterEnd (topOf part) leftover (frame .last) .guard .wel ≡ b) ↔ ((frame .last .frame .stage ≡ Instruction c) × (leftover ≡ 0))
+      → (welOf (frameSent part leftover bs w) ≡ b) ↔ SentAlone (codeNumber c) leftover bs w
+  moves c o s d b l = let f = found c o s d in (λ q. f .0 (l .0 (sym wel-after ∙ q)), λ q. wel-after ∙ l .1 (f .1 q))
+
   frame-cleared : welOf w ≡ true → (welOf (frameSent part leftover bs w) ≡ false) ↔ SentAlone 0x04 leftover bs w
-  frame-cleared on =
-      let l = end-cleared (topOf part) leftover (frame .last) (wel-kept ∙ on) in
-      let f = found Eewrdi refl refl refl in
-      (λ q. f .0 (l .0 (sym wel-after ∙ q)), λ q. wel-after ∙ l .1 (f .1 q))
+  frame-cleared on = moves Eewrdi refl refl refl false (end-cleared (topOf part) leftover (frame .last) (wel-kept ∙ on))
 
   frame-set : welOf w ≡ false → (welOf (frameSent part leftover bs w) ≡ true) ↔ SentAlone 0x06 leftover bs w
-  frame-set off =
-      let l = end-set (topOf part) leftover (frame .last) (wel-kept ∙ off) in
-      let f = found Eewren refl refl refl in
-      (λ q. f .0 (l .0 (sym wel-after ∙ q)), λ q. wel-after ∙ l .1 (f .1 q))
+  frame-set off = moves Eewren refl refl refl true (end-set (topOf part) leftover (frame .last) (wel-kept ∙ off))
 
 -- The promise.
 pub latch : Latch

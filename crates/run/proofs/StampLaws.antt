@@ -28,7 +28,6 @@ use Rattle.record.specs.Stages.{framePlace}
 use Rattle.record.specs.Stamps.{toDay, NoStamps, Shows}
 use Rattle.record.specs.World.{World, Shaped, freshWorld}
 use Rattle.record.proofs.StampLaws.{shows-kept}
-use Rattle.refusals.specs.InRange.{InRange}
 use Rattle.refusals.specs.Refusal.{wrongPower}
 use Rattle.refusals.proofs.RangeLaws.{in-range, out-of-range}
 use Rattle.refusals.proofs.TableLaws as table
@@ -43,7 +42,8 @@ use Rattle.power.specs.Power.{afterCut, cutWorld, afterUp}
 use Rattle.power.proofs.PowerLaws.{cut-device, cut-beside}
 use Rattle.power.proofs.StampLaws.{cut-mark, cut-stamps, cut-held, fresh-stamp, cut-lost, up-mark, up-stamps, up-leaves}
 use Rattle.acts.specs.Act.{Outcome, accepted, refusalIn, performed}
-use Rattle.acts.proofs.OutcomeLaws.{answered-by-table, by-acceptance, changed-by, done-as}
+use Rattle.acts.proofs.OutcomeLaws.{answered-by-table, by-acceptance, changed-by, done-passed, done-as}
+use Rattle.acts.proofs.SuitedLaws.{passed-range}
 use Rattle.acts.proofs.ValidLaws.{Valid, performed-valid, fresh-valid}
 use Rattle.run.specs.Claim.{Input, ourChip, worldAfter}
 use Rattle.run.specs.Stamps.{StampAct, fails, forgets, returns, clears, NoUp, powerOff, powerBack, PowerFailure, TimeStamps}
@@ -92,9 +92,6 @@ module _ (part arg : ℕ) (w : World) (z : Shaped part w) where
   size : length (w .device .regs) ≡ 32
   size = z .sized .regs
 
-  inside : (act : Act) → refusalIn part act arg w ≡ 0 → InRange part (w .device)
-  inside act e = in-range part (w .device) (table.accepted part act arg (w .device) _ _ e .setup .ranged)
-
   stamps-of :
       (act : Act) → refusalIn part act arg w ≡ 0 → (k : ℕ) → 0x18 ≤ k
       → getD (accepted part arg w act .after .device .regs) k 0 ≢ getD (w .device .regs) k 0 → StampAct act arg (w .device) k
@@ -104,9 +101,9 @@ module _ (part arg : ℕ) (w : World) (z : Shaped part w) where
       ⊎-elim
       (λ s.
       by-cases (bit arg 4)
-      (λ t. absurd (n (byte-stamps (bootsOf part) (topOf part) arg (w .device) size (inside Byte e .clock .inside) (λ q. true-false t (q .1)) k h)))
+      (λ t. absurd (n (byte-stamps (bootsOf part) (topOf part) arg (w .device) size (passed-range part Byte arg w e .clock .inside) (λ q. true-false t (q .1)) k h)))
       (λ f. clears refl s f))
-      (λ s. absurd (n (byte-stamps (bootsOf part) (topOf part) arg (w .device) size (inside Byte e .clock .inside) (λ q. s (q .0)) k h)))
+      (λ s. absurd (n (byte-stamps (bootsOf part) (topOf part) arg (w .device) size (passed-range part Byte arg w e .clock .inside) (λ q. s (q .0)) k h)))
       (day-stage (w .device .frame .stage))
   stamps-of End e k h n = absurd (n refl)
   stamps-of Wait e k h n = absurd (n (wait-stays part arg w .stamps k h))
@@ -210,7 +207,7 @@ module _ (part mask : ℕ) (xs : List Input) (w : World) (z : Shaped part w) (e 
   v = powerOff part mask xs w
 
   passed-cut : refusalIn part Cut mask w ≡ 0
-  passed-cut = sym (answered-by-table part Cut mask w) ∙ e
+  passed-cut = done-passed part Cut mask w e
 
   cut-done : performed part Cut mask w .after .device ≡ afterCut mask (w .device)
   cut-done = ap device-of (done-as part Cut mask w e) ∙ cut-device mask w
@@ -401,7 +398,7 @@ time-stamps =
           rw (done-as part Byte arg w e) (b .1, b .0);
       left =
           λ part arg w z e s b.
-          let r = in-range part (w .device) (table.accepted part Byte arg (w .device) _ _ (sym (answered-by-table part Byte arg w) ∙ e) .setup .ranged) in
+          let r = passed-range part Byte arg w (done-passed part Byte arg w e) in
           rw (done-as part Byte arg w e) (
             byte-stamps (bootsOf part) (topOf part) arg (w .device) (z .sized .regs) (r .clock .inside) (λ q. true-false b (q .1)),
             byte-leaves-vbat (bootsOf part) (topOf part) arg (w .device) (z .sized .regs) s b,

@@ -20,7 +20,8 @@ use Rattle.run.specs.Script.{raggedFrame}
 abbrev pub welOf : World → Bool
 welOf w = w .device .guard .wel
 
--- F19. The end of a heard frame that is the code's byte alone: no second byte, no leftover bit.
+-- F19. The end, with no leftover bit, of a heard frame that stands at the code's instruction byte. EEWREN and EEWRDI do so alone: a second byte takes
+-- them on.
 abbrev pub EndsAlone : Code → Act → ℕ → Device → Type 0
 EndsAlone code act arg d = (act ≡ End) × (d .frame .stage ≡ Instruction code) × (arg ≡ 0)
 
@@ -39,13 +40,13 @@ pub data Resets (act : Act) (arg used : ℕ) (d : Device) : Type 0 where
 abbrev pub frameSent : ℕ → ℕ → List ℕ → World → World
 frameSent part leftover bs w = worldAfter ourChip part (raggedFrame leftover bs) w
 
--- the frame is one byte and no bit more, and finds no cycle
+-- F19, F31. the frame is one byte and no bit more, and finds no cycle
 abbrev pub SentAlone : ℕ → ℕ → List ℕ → World → Type 0
 SentAlone byte leftover bs w = (bs ≡ byte ∷ []) × (leftover ≡ 0) × (w .device .cycle .left ≡ 0)
 
 -- R14. The promise.
 pub record Latch : Type 0 where
-  -- an act that finds WEL set leaves it clear exactly if it is done and resets it; so a write that came to nothing leaves it set
+  -- an act that finds WEL set leaves it clear exactly if it is done and resets it; so a failed write leaves it set
   pub cleared :
       (part : ℕ) (act : Act) (arg : ℕ) (w : World) → welOf w ≡ true
       → (welOf (performed part act arg w .after) ≡ false)

@@ -31,7 +31,7 @@ impl Writer {
             self.frame(&[EEWREN]);
         }
         for _ in 0..1 + self.random.below(3) {
-            self.idle_write(low, high);
+            self.failed_write(low, high);
             self.between_writes();
         }
         self.good_write(low);
@@ -73,7 +73,7 @@ impl Writer {
     }
 
     /// A write that comes to nothing if the lock is closed and the high place protected.
-    fn idle_write(&mut self, low: u8, high: u8) {
+    fn failed_write(&mut self, low: u8, high: u8) {
         let count = 1 + self.random.below(9);
         match self.random.below(6) {
             0 | 1 => self.frame_with(&[EEWRITE, high], count),
