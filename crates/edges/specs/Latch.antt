@@ -89,7 +89,7 @@ LatchShown =
     × (statusAfter (0x01 ∷ 0 ∷ 0 ∷ 0 ∷ []) enabled ≡ answered 0x06)
     × (statusAfter (0x01 ∷ []) enabled ≡ answered 0x06)
     × (statusAfter (0x02 ∷ 0 ∷ []) enabled ≡ answered 0x06)
-    × (statusAfter (0x32 ∷ 0 ∷ []) enabled ≡ answered 0x06)
+    × (statusAfter (0x32 ∷ 0 ∷ []) (unlocked enabled) ≡ answered 0x06)
     -- F23, F30. with WEL clear no write sets it, nor starts a cycle
     × (statusAfter (0x02 ∷ 0 ∷ 1 ∷ []) disabled ≡ answered 0x04)
     × (statusAfter (0x32 ∷ 0 ∷ 1 ∷ []) (unlocked disabled) ≡ answered 0x04)

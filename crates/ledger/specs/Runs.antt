@@ -104,9 +104,9 @@ ClosedRuns =
     -- F24, F30. WEL stays too after an address and no data, and after SRWRITE with two data bytes.
     × (eepromAfter 2 (enable ++ write 0x00 [] ++ write 0x01 (2 ∷ []) ++ ends) (0x00 ∷ 0x01 ∷ []) ≡ 255 ∷ 2 ∷ [])
     × (eepromAfter 2 (enable ++ frame (0x01 ∷ 0x0c ∷ 0x0c ∷ []) ++ write 0x01 (2 ∷ []) ++ ends) (0x01 ∷ []) ≡ 2 ∷ [])
-    -- F26, F30. And of a protected page: under BP 01 C0h gets nothing, and 01h is written without a new enable.
+    -- F26, F30. And after a protected page: under BP 01 C0h gets nothing, and 01h is written without a new enable.
     × (eepromAfter 2 (enable ++ status 0x04 ++ ends ++ enable ++ write 0xc0 (1 ∷ []) ++ write 0x01 (2 ∷ []) ++ ends) (0xc0 ∷ 0x01 ∷ []) ≡ 255 ∷ 2 ∷ [])
-    -- F27, F30. And of a lock that is not open.
+    -- F27, F30. And after a lock that was not open.
     × (eepromAfter 2 (enable ++ idWrite 0x05 (1 ∷ []) ++ write 0x01 (2 ∷ []) ++ ends) (0x01 ∷ []) ≡ 2 ∷ [])
     -- F19, F30. After such a write EEWRDI still takes the enable back.
     × (eepromAfter 2 (enable ++ ragged 7 (0x02 ∷ 0x00 ∷ 1 ∷ []) ++ frame (0x04 ∷ []) ++ write 0x01 (2 ∷ []) ++ idle) (0x01 ∷ []) ≡ 255 ∷ [])
