@@ -522,13 +522,13 @@ fn end(part: u64, device: &mut Device, leftover: u64) {
             CLRWDT if bytes != Bytes::More && whole => device.watchdog = 0,
             CLRRAM if bytes != Bytes::More && whole => device.sram = [0; 64],
             EEWRITE if bytes == Bytes::More && whole && page_is_free(part, device) => {
-                start_cycle(device, Target::Eeprom);
+                start_if_enabled(device, Target::Eeprom);
             }
             IDWRITE if bytes == Bytes::More && whole && device.lock == Lock::Open => {
-                start_cycle(device, Target::Id);
+                start_if_enabled(device, Target::Id);
             }
             SRWRITE if bytes == Bytes::Two && whole => {
-                start_cycle(device, Target::Status(Protection::from_bits(second >> 2)));
+                start_if_enabled(device, Target::Status(Protection::from_bits(second >> 2)));
             }
             _ => {}
         }
@@ -544,7 +544,7 @@ fn page_is_free(part: u64, device: &Device) -> bool {
 
 /// 01 Frames: the last thing that a write wants is WEL; then it is 'carried'. 02 Latch: the end of
 /// its cycle clears WEL, and a write that comes to nothing leaves it as it was.
-fn start_cycle(device: &mut Device, target: Target) {
+fn start_if_enabled(device: &mut Device, target: Target) {
     if device.wel {
         device.target = target;
         device.countdown = WRITE_CYCLE;

@@ -128,8 +128,9 @@ FramesShown =
     × (after 1 (frameOf (0xff ∷ 0x20 ∷ 1 ∷ [])) busy ≡ busy)
     -- A3. no time passes in a frame
     × (after 1 (frameOf (0x13 ∷ 0x00 ∷ replicate 40 0)) busy ≡ busy)
-    -- F31, F32. in a cycle: EEREAD is not heard, nor an enable; READ, SRREAD, WRITE, CLRRAM and CLRWDT are
+    -- F31, F32. in a cycle: EEREAD is not heard, whatever byte follows it, nor an enable; READ, SRREAD, WRITE, CLRRAM and CLRWDT are
     × (replies 1 [] (0x03 ∷ 0x00 ∷ 0 ∷ []) inCycle ≡ Off ∷ Off ∷ Off ∷ [])
+    × (replies 1 [] (0x03 ∷ 0x05 ∷ 0 ∷ []) inCycle ≡ Off ∷ Off ∷ Off ∷ [])
     × (replies 1 [] (0x13 ∷ 0x01 ∷ 0 ∷ []) inCycle ≡ Off ∷ Off ∷ Driven 0x80 ∷ [])
     × (replies 1 [] (0x05 ∷ 0 ∷ []) inCycle ≡ Off ∷ Driven 0x01 ∷ [])
     × (after 1 (frameOf (0x06 ∷ [])) inCycle ≡ inCycle)
@@ -156,10 +157,13 @@ FramesShown =
     × (performed 1 Up 0 (performed 1 Cut 0 busy .after) .reply ≡ Off) × (numbered (performed 1 Up 0 (performed 1 Cut 0 busy .after)) ≡ 0 ∷ 0 ∷ [])
     × (performed 1 Byte 0x13 busy .reply ≡ Off) × (numbered (performed 1 Byte 0x13 busy) ≡ 2 ∷ 0 ∷ []) × (performed 1 Byte 0x13 busy .after ≡ busy)
 
--- a cycle with three of eight offsets loaded, before its last tick
+-- a cycle with three of eight offsets loaded, so many ticks before its end, and before its last tick
+abbrev pub loadedFor : ℕ → Target → World
+loadedFor left t =
+    lent (withLoad (withWel (withCycle (chip started (counts 0 32 0 0 0)) (record { target = t; left = left })) true) (record { offsets = 0x07; bytes = 1 ∷ 2 ∷ 3 ∷ replicate 5 0; next = 3 }))
+
 abbrev pub loaded : Target → World
-loaded t =
-    lent (withLoad (withWel (withCycle (chip started (counts 0 32 0 0 0)) (record { target = t; left = 1 })) true) (record { offsets = 0x07; bytes = 1 ∷ 2 ∷ 3 ∷ replicate 5 0; next = 3 }))
+loaded t = loadedFor 1 t
 
 -- without VBATEN, and with a time-out pulse and a delay
 abbrev pub unbattered : World
@@ -174,7 +178,8 @@ PowerShown =
     × (performed 1 Cut 0x05 (loaded (Eeprom (record { 0 = 0x10 }))) .after .eeprom ≡ set (set (replicate 128 255) 0x10 1) 0x12 3)
     × (performed 1 Cut 0x02 (loaded (Id (record { 0 = 8 }))) .count ≡ 1)
     × (performed 1 Cut 0x02 (loaded (Id (record { 0 = 8 }))) .after .id ≡ set (replicate 16 255) 9 2)
-    × (performed 1 Cut 0xff busy .count ≡ 0)
+    × (performed 1 Cut 0xff (loadedFor 0 (Eeprom (record { 0 = 0x10 }))) .count ≡ 0)
+    × (performed 1 Cut 0xff (loadedFor 0 (Eeprom (record { 0 = 0x10 }))) .after .eeprom ≡ replicate 128 255)
     -- P3. an SRWRITE goes by bit 0
     × (performed 1 Cut 0x01 (loaded (Status Half)) .count ≡ 1)
     × (performed 1 Cut 0x01 (loaded (Status Half)) .after .device .guard .protection ≡ Half)
@@ -220,6 +225,6 @@ pub acts-shown : ActsShown
 unfolding ActsShown RegistersShown FramesShown PowerShown validField after replies bytesAnswered afterBytes drivenAll leapYear worldAfter ourChip sent fresh performed refusalOf outOfRange clockOut frameOut cycleOut powerOut bitOutside every statusByte afterSelect afterByte nextReply readClock writeClock afterWrite afterEnd carried cycleAfter welAfter afterCut cutCount cutWorld afterUp stamped unstamped waitedBy tick cycleTick cycleDevice clockwork changed irqLow wdoLow oscillatorTick watchdogTick calendarTick storeUnder members
 acts-shown = (
   (refl, refl, refl, refl, refl, refl, refl, refl, refl, refl, refl, refl, refl, refl, refl),
-  (refl, refl, refl, refl, refl, refl, refl, refl, refl, refl, refl, refl, refl, refl, refl, refl, refl, refl, refl, refl, refl, refl, refl, refl, refl, refl, refl, refl, refl, refl, refl, refl, refl, refl, refl, refl, refl, refl, refl, refl, refl, refl),
-  (refl, refl, refl, refl, refl, refl, refl, refl, refl, refl, refl, refl, refl, refl, refl, refl, refl, refl, refl, refl, refl, refl, refl, refl, refl, refl, refl, refl, refl, refl, refl, refl, refl, refl, refl, refl),
+  (refl, refl, refl, refl, refl, refl, refl, refl, refl, refl, refl, refl, refl, refl, refl, refl, refl, refl, refl, refl, refl, refl, refl, refl, refl, refl, refl, refl, refl, refl, refl, refl, refl, refl, refl, refl, refl, refl, refl, refl, refl, refl, refl),
+  (refl, refl, refl, refl, refl, refl, refl, refl, refl, refl, refl, refl, refl, refl, refl, refl, refl, refl, refl, refl, refl, refl, refl, refl, refl, refl, refl, refl, refl, refl, refl, refl, refl, refl, refl, refl, refl),
 )

@@ -1,5 +1,5 @@
--- Closed witnesses of the latch, on records that are written out, through `performed`: what STATUS is answered after each act that resets it, a cut
--- apart, where WEL is looked up in the record, and after what does not. BP is 01 throughout: with no cycle STATUS is 04h with WEL clear, 06h with WEL set.
+-- Closed witnesses of the latch, on records that are written out, through `performed`: what STATUS is answered after each act that resets it, and
+-- after what does not; WEL in the record where STATUS cannot be asked. BP is 01 throughout: with no cycle STATUS is 04h with WEL clear, 06h with WEL set.
 -- Assumes nothing.
 use Prim.Native.Nat.{ℕ}
 use mathlib.Core.Path.{_≡_}
@@ -10,7 +10,7 @@ use Rattle.base.specs.Wait.{waitedBy}
 use Rattle.base.specs.Words.{every, members, storeUnder}
 use Rattle.record.specs.declared.Act.{Act}
 use Rattle.record.specs.declared.Act.the-variants.{Select, End, Wait, Cut, Up}
-use Rattle.record.specs.declared.Lock.the-variants.{Open}
+use Rattle.record.specs.declared.Lock.the-variants.{Closed, Open}
 use Rattle.record.specs.declared.Protection.the-variants.{Quarter}
 use Rattle.record.specs.declared.Reply.{Reply}
 use Rattle.record.specs.declared.Reply.the-variants.{Driven}
@@ -121,9 +121,10 @@ LatchShown =
     × (statusOnce Wait 2 (latched started true (Status Quarter) 2) ≡ answered 0x04)
     -- F28. a wait with no cycle leaves it
     × (statusOnce Wait 2 enabled ≡ answered 0x06)
-    -- P6. a cut, with VBATEN and without, seen in the record
-    × (performed 1 Cut 0 (latched (set started 0x04 0x08) true (Status Quarter) 0) .after .device .guard .wel ≡ false)
-    × (performed 1 Cut 0 enabled .after .device .guard .wel ≡ false)
+    -- P6, P11. a cut, with VBATEN and without, seen in the record: WEL is clear and an open lock closed, the protection stays
+    × (performed 1 Cut 0 (unlocked (latched (set started 0x04 0x08) true (Status Quarter) 0)) .after .device .guard
+    ≡ record { wel = false; protection = Quarter; lock = Closed })
+    × (performed 1 Cut 0 (unlocked enabled) .after .device .guard ≡ record { wel = false; protection = Quarter; lock = Closed })
     -- P18. an up, of a record with power off and WEL set
     × (performed 1 Up 0 enabledOff .number ≡ 0)
     × (statusOnce Up 0 enabledOff ≡ answered 0x04)

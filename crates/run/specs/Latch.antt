@@ -20,8 +20,8 @@ use Rattle.run.specs.Script.{raggedFrame}
 abbrev pub welOf : World → Bool
 welOf w = w .device .guard .wel
 
--- F19. The end, with no leftover bit, of a heard frame that stands at the code's instruction byte. EEWREN and EEWRDI do so alone: a second byte takes
--- them on.
+-- F19. The end, with no leftover bit, of a heard frame that stands at the code's instruction byte. EEWREN and EEWRDI do so alone: a second byte
+-- moves the stage on.
 abbrev pub EndsAlone : Code → Act → ℕ → Device → Type 0
 EndsAlone code act arg d = (act ≡ End) × (d .frame .stage ≡ Instruction code) × (arg ≡ 0)
 

@@ -63,7 +63,7 @@ emptyChip = changedBy (λ v w. moved v (w .device))
 abbrev pub cameToNothing : World → World → Bool
 cameToNothing v w = dataCame (v .device .load) (v .device .frame .stage) && not (selected (w .device .frame .stage)) && not (wip (w .device))
 
--- R3, F30. A chip whose latch is cleared by a write that starts no cycle, as ours was before request 2.
+-- R3, F30. A chip whose latch is cleared by a write that starts no cycle.
 unfoldable pub lapsingChip : Chip
 lapsingChip = changedBy (λ v w. pick (cameToNothing v w) (latchedAt false w) w)
 
