@@ -228,30 +228,10 @@ CycleRuns =
     × (idAfter 2 (steps ++ enable ++ idWrite 0x05 (1 ∷ []) ++ waits 163 163) (0x05 ∷ []) ≡ 255 ∷ [])
     × (idAfter 2 (steps ++ enable ++ idWrite 0x05 (1 ∷ []) ++ waits 163 163 ++ waits 1 1) (0x05 ∷ []) ≡ 1 ∷ [])
 
--- Each run computes. A refusal names the parts that do not, counted from 0.
-write-runs : WriteRuns
-unfolding WriteRuns ledgerRun follow refused onSelect onByte onEnd ticked waited finished onWait onCut onUp firstByte laterByte carried cycleOf welAfter lockAfter isLoaded loadedByte entriesUnder entriesAfter bpAfter byteOf noByte noCycle start sends foundAt
-write-runs = search depth 1
-
-protection-runs : ProtectionRuns
-unfolding ProtectionRuns ledgerRun follow refused onSelect onByte onEnd ticked waited finished onWait onCut onUp firstByte laterByte carried cycleOf welAfter lockAfter isLoaded loadedByte entriesUnder entriesAfter bpAfter byteOf noByte noCycle start sends foundAt
-protection-runs = search depth 1
-
-power-runs : PowerRuns
-unfolding PowerRuns ledgerRun follow refused onSelect onByte onEnd ticked waited finished onWait onCut onUp firstByte laterByte carried cycleOf welAfter lockAfter isLoaded loadedByte entriesUnder entriesAfter bpAfter byteOf noByte noCycle start sends foundAt
-power-runs = search depth 1
-
-lock-runs : LockRuns
-unfolding LockRuns ledgerRun follow refused onSelect onByte onEnd ticked waited finished onWait onCut onUp firstByte laterByte carried cycleOf welAfter lockAfter isLoaded loadedByte entriesUnder entriesAfter bpAfter byteOf noByte noCycle start sends foundAt
-lock-runs = search depth 1
-
-cycle-runs : CycleRuns
-unfolding CycleRuns ledgerRun follow refused onSelect onByte onEnd ticked waited finished onWait onCut onUp firstByte laterByte carried cycleOf welAfter lockAfter isLoaded loadedByte entriesUnder entriesAfter bpAfter byteOf noByte noCycle start sends foundAt
-cycle-runs = search depth 1
-
 pub ClosedRuns : Type 0
 ClosedRuns = WriteRuns × ProtectionRuns × PowerRuns × LockRuns × CycleRuns
 
+-- Each run computes. A refusal names the parts that do not, counted from 0.
 pub closed-runs : ClosedRuns
-unfolding ClosedRuns
-closed-runs = (write-runs, protection-runs, power-runs, lock-runs, cycle-runs)
+unfolding ClosedRuns WriteRuns ProtectionRuns PowerRuns LockRuns CycleRuns ledgerRun follow refused onSelect onByte onEnd ticked waited finished onWait onCut onUp firstByte laterByte carried cycleOf welAfter lockAfter isLoaded loadedByte entriesUnder entriesAfter bpAfter byteOf noByte noCycle start sends foundAt
+closed-runs = (search depth 1, search depth 1, search depth 1, search depth 1, search depth 1)
