@@ -99,6 +99,11 @@ WriteRuns =
     (eepromAfter 2 wholeCase (0x07 ∷ 0x00 ∷ 0x06 ∷ 0x01 ∷ 0x08 ∷ []) ≡ 18 ∷ 52 ∷ 255 ∷ 255 ∷ 255 ∷ [])
     -- L7, A34. The same with refused acts between.
     × (eepromAfter 2 refusedBetween (0x07 ∷ 0x00 ∷ 0x01 ∷ []) ≡ 18 ∷ 52 ∷ 255 ∷ [])
+    -- A9, L10. After its end a frame takes no byte: an enable without a select is none.
+    × (eepromAfter 2 (frame [] ++ sends 0 (0x06 ∷ []) ++ write 0x00 (1 ∷ []) ++ idle) (0x00 ∷ []) ≡ 255 ∷ [])
+    -- A11, L12. The longest wait ends a cycle, and one tick more is refused, whatever ticks it is said to have used.
+    × (eepromAfter 2 (enable ++ write 0x00 (1 ∷ []) ++ waits 16777216 164) (0x00 ∷ []) ≡ 1 ∷ [])
+    × (eepromAfter 2 (enable ++ write 0x00 (1 ∷ []) ++ waits 16777217 164) (0x00 ∷ []) ≡ 255 ∷ [])
     -- F23. The enable is forgotten, of each of the three writes.
     × (eepromAfter 2 (write 0x00 (1 ∷ []) ++ idle) (0x00 ∷ []) ≡ 255 ∷ [])
     × (idAfter 2 (steps ++ idWrite 0x05 (1 ∷ []) ++ idle) (0x05 ∷ []) ≡ 255 ∷ [])
@@ -108,6 +113,9 @@ WriteRuns =
     × (eepromAfter 2 (ragged 3 (0x06 ∷ []) ++ write 0x00 (1 ∷ []) ++ idle) (0x00 ∷ []) ≡ 255 ∷ [])
     -- F19. EEWRDI takes the enable back.
     × (eepromAfter 2 (enable ++ frame (0x04 ∷ []) ++ write 0x00 (1 ∷ []) ++ idle) (0x00 ∷ []) ≡ 255 ∷ [])
+    -- F19. With a second byte or a bit more it does not, nor does another code alone.
+    × (eepromAfter 2 (enable ++ frame (0x04 ∷ 0x00 ∷ []) ++ ragged 1 (0x04 ∷ []) ++ write 0x00 (1 ∷ []) ++ ends) (0x00 ∷ []) ≡ 1 ∷ [])
+    × (eepromAfter 2 (enable ++ frame (0x00 ∷ []) ++ frame (0x03 ∷ []) ++ frame (0x05 ∷ []) ++ read ++ frame (0x44 ∷ []) ++ write 0x00 (1 ∷ []) ++ ends) (0x00 ∷ []) ≡ 1 ∷ [])
     -- F25, F30, E18. Seven bits more after the data: no cycle, and WEL stays set for the write that follows.
     × (eepromAfter 2 (enable ++ ragged 7 (0x02 ∷ 0x00 ∷ 1 ∷ []) ++ write 0x01 (2 ∷ []) ++ ends) (0x00 ∷ 0x01 ∷ []) ≡ 255 ∷ 2 ∷ [])
     -- F25. They start no cycle of IDWRITE with the lock open either, nor of SRWRITE.
@@ -147,7 +155,10 @@ ProtectionRuns =
     -- F26, F27, F29, F30. BP 11: not even 00h; but SRWRITE takes it back, and IDWRITE asks for the lock alone.
     × (eepromAfter 2 (enable ++ status 0x0c ++ ends ++ enable ++ write 0x00 (1 ∷ []) ++ status 0x00 ++ ends ++ enable ++ write 0x01 (2 ∷ []) ++ ends) (0x00 ∷ 0x01 ∷ []) ≡ 255 ∷ 2 ∷ [])
     × Opens (enable ++ status 0x0c ++ ends ++ steps)
-    -- F6, F24, F28, E16. BP is bits 3 and 2 of the byte from the 164th tick on, not from the 163rd; two data bytes start no cycle.
+    -- A12, F6. BP is bits 3 and 2 alone: of FFh, the last number that is a byte, and of 10h.
+    × (bpFound 2 (enable ++ status 0xff ++ ends) ≡ 3)
+    × (bpFound 2 (enable ++ status 0x10 ++ ends) ≡ 0)
+    -- F6, F24, F28, E16. It is there from the 164th tick on, not from the 163rd; two data bytes start no cycle.
     × (bpFound 2 (enable ++ status 0xfb ++ waits 163 163) ≡ 0)
     × (bpFound 2 (enable ++ status 0xfb ++ waits 163 163 ++ waits 1 1) ≡ 2)
     × (bpFound 2 (enable ++ frame (0x01 ∷ 0x0c ∷ 0x0c ∷ []) ++ idle) ≡ 0)
@@ -168,6 +179,11 @@ PowerRuns =
     × (eepromAfter 2 (enable ++ does select 0 ∷ does byte 2 ∷ does byte 0 ∷ does byte 1 ∷ does cut 255 ∷ does up 0 ∷ does end 0 ∷ idle) (0x00 ∷ []) ≡ 255 ∷ [])
     × Shuts (unlock 0x55 ++ does cut 0 ∷ does up 0 ∷ unlock 0xaa)
     × Shuts (steps ++ does cut 0 ∷ does up 0 ∷ [])
+    -- A13, A16, L15. Without power no act counts until an up, which asks for nothing; and the chip is not selected then.
+    × (eepromAfter 2 (does cut 0 ∷ enable ++ write 0x00 (1 ∷ []) ++ idle) (0x00 ∷ []) ≡ 255 ∷ [])
+    × (eepromAfter 2 (does cut 0 ∷ does up 1 ∷ enable ++ write 0x00 (1 ∷ []) ++ idle) (0x00 ∷ []) ≡ 255 ∷ [])
+    × (eepromAfter 2 (does cut 0 ∷ does up 0 ∷ enable ++ write 0x00 (1 ∷ []) ++ ends) (0x00 ∷ []) ≡ 1 ∷ [])
+    × (eepromAfter 2 (does select 0 ∷ does cut 0 ∷ does up 0 ∷ sends 0 (0x06 ∷ []) ++ write 0x00 (1 ∷ []) ++ idle) (0x00 ∷ []) ≡ 255 ∷ [])
     -- L15, P18. Up clears WEL, of a ledger that begins without power and with WEL set.
     × (foundAt eeprom (0x00 ∷ []) (ledgerRun 2 (does up 0 ∷ write 0x00 (1 ∷ []) ++ idle) (withPower false (withWel true start)) .entries) ≡ 255 ∷ [])
 
@@ -175,9 +191,10 @@ PowerRuns =
 pub LockRuns : Type 0
 LockRuns =
     -- F9, F27, F33, F36, L5. The lock is opened, an SRREAD and an EEWREN between, and used: address 15h is ID place 05h, and EEPROM 05h
-    -- gets nothing.
+    -- gets nothing, nor does ID 05h of an EEWRITE there.
     (idAfter 2 (unlock 0x55 ++ frame (0x05 ∷ 0x00 ∷ []) ++ unlock 0xaa ++ enable ++ idWrite 0x15 (1 ∷ []) ++ ends) (0x05 ∷ 0x06 ∷ []) ≡ 1 ∷ 255 ∷ [])
     × (eepromAfter 2 (steps ++ enable ++ idWrite 0x05 (1 ∷ []) ++ ends) (0x05 ∷ []) ≡ 255 ∷ [])
+    × (idAfter 2 (enable ++ write 0x05 (1 ∷ []) ++ ends) (0x05 ∷ []) ≡ 255 ∷ [])
     -- F27. It is not opened at all.
     × Shuts []
     -- F33, F34. 55h is the first step whatever came before: twice, or on an open lock. It opens nothing by itself.
