@@ -8,7 +8,7 @@ use Rattle.acts.proofs.OutcomeLaws.{answered-by-table, refused-same}
 use Rattle.run.proofs.DemandThree.{demand-three}
 use Rattle.run.proofs.LatchLaws.{latch}
 use Rattle.run.proofs.StampLaws.{time-stamps}
-use Rattle.run.proofs.WrongLaws.{enableless-fails, deaf-fails, empty-fails, maskless-fails, lockless-fails, lapsing-fails}
+use Rattle.run.proofs.WrongLaws.{wrong-chips-fail}
 use Rattle.lines.proofs.LineLaws.{asks-exactly}
 use Rattle.answers.proofs.AnswerLaws.{seven-exactly, refused-setup}
 use Rattle.feeding.proofs.FeedLaws.{any-feeding}
@@ -50,12 +50,7 @@ accountable =
     record {
       acts = demand-three;
       tapes = any-feeding;
-      enableless = enableless-fails;
-      deaf = deaf-fails;
-      empty = empty-fails;
-      maskless = maskless-fails;
-      lockless = lockless-fails;
-      lapsing = lapsing-fails;
+      wrong = wrong-chips-fail;
     }
 
 pub demands : Demands

@@ -15,7 +15,7 @@ use Rattle.acts.specs.Act.{performed, refused}
 use Rattle.run.specs.Claim.{ourChip, DemandThree}
 use Rattle.run.specs.Latch.{Latch}
 use Rattle.run.specs.Stamps.{TimeStamps}
-use Rattle.run.specs.Wrong.{enablelessChip, deafChip, emptyChip, masklessChip, locklessChip, lapsingChip}
+use Rattle.run.specs.Wrong.{WrongChipsFail}
 use Rattle.lines.specs.declared.Name.{Name}
 use Rattle.lines.specs.Request.{requestOf, asked, unknownName, Spelled}
 use Rattle.answers.specs.Answer.{Setup, lineAnswer, SevenRow}
@@ -67,12 +67,7 @@ pub record Accountable : Type 0 where
   -- bytes written
   pub tapes : AnyFeeding
   -- the claim is no empty one: six wrong chips do not have it
-  pub enableless : ¬ DemandThree enablelessChip
-  pub deaf : ¬ DemandThree deafChip
-  pub empty : ¬ DemandThree emptyChip
-  pub maskless : ¬ DemandThree masklessChip
-  pub lockless : ¬ DemandThree locklessChip
-  pub lapsing : ¬ DemandThree lapsingChip
+  pub wrong : WrongChipsFail
 
 -- R12. The three together, and of each change request what it promises of every act and every run.
 pub record Demands : Type 2 where

@@ -28,7 +28,7 @@ use Rattle.ledger.specs.Bytes as bytes
 use Rattle.ledger.specs.Steps as steps
 use Rattle.run.specs.Claim.{Chip, Input, DemandThree, memorySize, ourChip, worldAfter, stepsOf}
 use Rattle.run.specs.Script.{sent}
-use Rattle.run.specs.Wrong.{enablelessChip, deafChip, emptyChip, masklessChip, locklessChip, lapsingChip, wholeCase, enableForgotten, cutWithNothing, lockForgotten, afterProtected, Differs, Refutations, RunsShown}
+use Rattle.run.specs.Wrong.{enablelessChip, deafChip, emptyChip, masklessChip, locklessChip, lapsingChip, wholeCase, enableForgotten, cutWithNothing, lockForgotten, afterProtected, Differs, Refutations, WrongChipsFail, RunsShown}
 
 -- both statements compute
 computed : Refutations × RunsShown
@@ -51,30 +51,18 @@ runs-shown = computed .1
 
 -- a chip that holds another byte than the one it owes does not have demand 3
 refuted :
-    (chip : Chip) (xs : List Input) (m : Memory) (p a b : ℕ) → p < memorySize m 2 → Differs chip 2 xs m p a b → eqb a b ≡ false → DemandThree chip → ⊥
+    (chip : Chip) (xs : List Input) (m : Memory) (p a b : ℕ) → Differs chip 2 xs m p a b → p < memorySize m 2 → eqb a b ≡ false → DemandThree chip → ⊥
 unfolding DemandThree
-refuted chip xs m p a b h d e claim = eqb-false a b e (sym (d .0) ∙ claim 2 refl xs m p h ∙ d .1)
+refuted chip xs m p a b d h e claim = eqb-false a b e (sym (d .0) ∙ claim 2 refl xs m p h ∙ d .1)
 
-pub enableless-fails : DemandThree enablelessChip → ⊥
+pub wrong-chips-fail : WrongChipsFail
 unfolding Refutations
-enableless-fails = refuted enablelessChip enableForgotten eeprom 0 52 255 (omega arith) (refutations .0) refl
-
-pub deaf-fails : DemandThree deafChip → ⊥
-unfolding Refutations
-deaf-fails = refuted deafChip wholeCase eeprom 0 255 52 (omega arith) (refutations .1) refl
-
-pub empty-fails : DemandThree emptyChip → ⊥
-unfolding Refutations
-empty-fails = refuted emptyChip wholeCase eeprom 0 255 52 (omega arith) (refutations .2) refl
-
-pub maskless-fails : DemandThree masklessChip → ⊥
-unfolding Refutations
-maskless-fails = refuted masklessChip cutWithNothing eeprom 0 52 255 (omega arith) (refutations .3) refl
-
-pub lockless-fails : DemandThree locklessChip → ⊥
-unfolding Refutations
-lockless-fails = refuted locklessChip lockForgotten id 3 77 255 (omega arith) (refutations .4) refl
-
-pub lapsing-fails : DemandThree lapsingChip → ⊥
-unfolding Refutations
-lapsing-fails = refuted lapsingChip afterProtected eeprom 0 255 52 (omega arith) (refutations .5) refl
+wrong-chips-fail =
+    record {
+      enableless = refuted enablelessChip enableForgotten eeprom 0 52 255 (refutations .0) (omega arith) refl;
+      deaf = refuted deafChip wholeCase eeprom 0 255 52 (refutations .1) (omega arith) refl;
+      empty = refuted emptyChip wholeCase eeprom 0 255 52 (refutations .2) (omega arith) refl;
+      maskless = refuted masklessChip cutWithNothing eeprom 0 52 255 (refutations .3) (omega arith) refl;
+      lockless = refuted locklessChip lockForgotten id 3 77 255 (refutations .4) (omega arith) refl;
+      lapsing = refuted lapsingChip afterProtected eeprom 0 255 52 (refutations .5) (omega arith) refl;
+    }

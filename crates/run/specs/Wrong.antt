@@ -16,7 +16,7 @@ use Rattle.ends.specs.Write.{dataCame}
 use Rattle.ledger.specs.State.{Memory, eeprom, id, start}
 use Rattle.ledger.specs.Bytes.{byteOf}
 use Rattle.ledger.specs.Steps.{ledgerRun}
-use Rattle.run.specs.Claim.{Chip, Input, ourChip, worldAfter, stepsOf, memoryOf}
+use Rattle.run.specs.Claim.{Chip, Input, DemandThree, ourChip, worldAfter, stepsOf, memoryOf}
 use Rattle.run.specs.Script.{does, raggedFrame, frameOf}
 
 -- a chip whose WEL is set to a value, and one whose lock is open
@@ -123,6 +123,15 @@ Refutations =
     × Differs masklessChip 2 cutWithNothing eeprom 0 52 255
     × Differs locklessChip 2 lockForgotten id 3 77 255
     × Differs lapsingChip 2 afterProtected eeprom 0 255 52
+
+-- R3. None of them has demand 3.
+pub record WrongChipsFail : Type 0 where
+  pub enableless : ¬ DemandThree enablelessChip
+  pub deaf : ¬ DemandThree deafChip
+  pub empty : ¬ DemandThree emptyChip
+  pub maskless : ¬ DemandThree masklessChip
+  pub lockless : ¬ DemandThree locklessChip
+  pub lapsing : ¬ DemandThree lapsingChip
 
 -- our chip on each part: the whole case stores 18 at 07h and 52 at 00h; with the enable forgotten the byte stays FFh; an ID byte is programmed;
 -- a write that follows one that came to nothing needs no new enable
