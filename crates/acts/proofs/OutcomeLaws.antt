@@ -8,7 +8,7 @@ use native.Mathlib.Omega.{arith}
 use borrow.Author.Tests.{eqb-true, eq-eqb, ne-eqb}
 use lib.Dec.{eqb}
 use lib.ListN.{length}
-use Rattle.base.proofs.Tests.{by-cases, pick-case, yes, no}
+use Rattle.base.proofs.Tests.{by-cases, pick-case, pick-when, yes, no}
 use Rattle.record.specs.declared.Act.{Act}
 use Rattle.record.specs.declared.Act.the-variants.{Select, Byte, End, Wait, Cut, Up}
 use Rattle.record.specs.declared.Device.{Device}
@@ -62,6 +62,14 @@ pub refused-same :
 refused-same part act arg w e =
     let t : eqb (refusalIn part act arg w) 0 ≡ false = ap (λ (k : ℕ). eqb k 0) (sym (answered-by-table part act arg w)) ∙ e in
     by-refusal part act arg w t ∙ ap (λ (k : ℕ). refused k w) (sym (answered-by-table part act arg w))
+
+-- What holds of the world, and of what the act leaves where the table accepts it, holds after the act.
+pub performed-case :
+    (P : World → Type 0) (part : ℕ) (act : Act) (arg : ℕ) (w : World) → P w → (refusalIn part act arg w ≡ 0 → P (accepted part arg w act .after))
+    → P (performed part act arg w .after)
+unfolding performed
+performed-case P part act arg w p q =
+    pick-when (λ (o : Outcome). P (o .after)) (eqb (refusalIn part act arg w) 0) (λ t. q (eqb-true (refusalIn part act arg w) 0 t)) (λ f. p)
 
 -- What an act changes it changes as one that is done; a refused one changes nothing.
 pub changed-by :

@@ -1,12 +1,11 @@
--- After which bytes a frame stands at the instruction of a code that a second byte moves on, and that is not heard while a cycle runs: after the code's
--- byte alone, with no cycle running.
+-- How a frame comes to the instruction of a code that a second byte moves on and that is not heard while a cycle runs: by the code's byte as its
+-- first, with no cycle running. No later byte brings it there.
 -- Assumes nothing.
 use Prim.Native.Nat.{ℕ}
 use native.Mathlib.Omega.{arith}
 use mathlib.Core.Path.{_≡_, refl, sym, ap, _∙_}
 use mathlib.Core.Bool.{Bool, false, not, _&&_}
 use mathlib.Core.Logic.{_↔_, _≢_}
-use mathlib.Core.List.{List, [], _∷_}
 use borrow.Author.Tests.{eq-eqb}
 use Rattle.base.proofs.Tests.{by-cases, pick-case, pick-when, true-false}
 use Rattle.record.specs.declared.Code.{Code}
@@ -19,14 +18,9 @@ use Rattle.record.specs.Stages.{codeAt}
 use Rattle.record.proofs.CodeLaws.{code-back, code-byte}
 use Rattle.frames.specs.Frame.{firstStage, secondStage, stageAfter}
 
--- the stage after bytes, while a cycle runs or not
-abbrev pub stagesAfter : ℕ → Bool → List ℕ → Stage → Stage
-stagesAfter top busy [] s = s
-stagesAfter top busy (b ∷ bs) s = stagesAfter top busy bs (stageAfter top busy b s)
-
-module _ (c : Code) (top : ℕ) (busy : Bool) (known : isCode c Other ≡ false) (moved : isCode c Srread ≡ false) where
+module _ (c : Code) (top : ℕ) (known : isCode c Other ≡ false) (moved : isCode c Srread ≡ false) where
   -- a stage that a further byte does not bring to the code's instruction
-  abbrev Past : Stage → Type 0
+  abbrev pub Past : Stage → Type 0
   Past s = (s ≢ Opened) × (s ≢ Instruction c)
 
   past : (s : Stage) → stageKind s ≢ 1 → stageKind s ≢ 3 → Past s
@@ -54,27 +48,23 @@ module _ (c : Code) (top : ℕ) (busy : Bool) (known : isCode c Other ≡ false)
   second-past v Clrram = past _ (λ e. omega arith) (λ e. omega arith)
   second-past v Other = at-other Other known
 
-  stage-past : (v : ℕ) (s : Stage) → s ≢ Opened → Past (stageAfter top busy v s)
-  stage-past v Idle n = past Idle (λ e. omega arith) (λ e. omega arith)
-  stage-past v Opened n = absurd (n refl)
-  stage-past v Unheard n = past Unheard (λ e. omega arith) (λ e. omega arith)
-  stage-past v (Instruction x) n = second-past v x
-  stage-past v (Reading p) n = past _ (λ e. omega arith) (λ e. omega arith)
-  stage-past v (Writing p) n = past _ (λ e. omega arith) (λ e. omega arith)
-  stage-past v (Second q) n = past _ (λ e. omega arith) (λ e. omega arith)
-  stage-past v (Over l) n = past _ (λ e. omega arith) (λ e. omega arith)
+  pub stage-past : (busy : Bool) (v : ℕ) (s : Stage) → s ≢ Opened → Past (stageAfter top busy v s)
+  stage-past busy v Idle n = past _ (λ e. omega arith) (λ e. omega arith)
+  stage-past busy v Opened n = absurd (n refl)
+  stage-past busy v Unheard n = past _ (λ e. omega arith) (λ e. omega arith)
+  stage-past busy v (Instruction x) n = second-past v x
+  stage-past busy v (Reading p) n = past _ (λ e. omega arith) (λ e. omega arith)
+  stage-past busy v (Writing p) n = past _ (λ e. omega arith) (λ e. omega arith)
+  stage-past busy v (Second q) n = past _ (λ e. omega arith) (λ e. omega arith)
+  stage-past busy v (Over l) n = past _ (λ e. omega arith) (λ e. omega arith)
 
-  stages-past : (bs : List ℕ) (s : Stage) → Past s → Past (stagesAfter top busy bs s)
-  stages-past [] s p = p
-  stages-past (b ∷ bs) s p = stages-past bs (stageAfter top busy b s) (stage-past b s (p .0))
+  pub first-begun : (busy : Bool) (x : Code) → firstStage busy x ≢ Opened
+  first-begun busy x =
+      pick-case (λ (s : Stage). s ≢ Opened) (busy && not (heardUnderWip x)) (λ e. omega (arith, ap stageKind e)) (λ e. omega (arith, ap stageKind e))
 
-  first-stage : (x : Code) → firstStage busy x ≢ Opened
-  first-stage x = pick-case (λ (s : Stage). s ≢ Opened) (busy && not (heardUnderWip x)) (λ e. omega (arith, ap stageKind e)) (λ e. omega (arith, ap stageKind e))
-
-  -- the first byte
   module _ (deaf : heardUnderWip c ≡ false) where
-    first-told : (b : ℕ) → firstStage busy (codeOf b) ≡ Instruction c → (b ≡ codeNumber c) × (busy ≡ false)
-    first-told b =
+    told : (busy : Bool) (b : ℕ) → firstStage busy (codeOf b) ≡ Instruction c → (b ≡ codeNumber c) × (busy ≡ false)
+    told busy b =
         pick-when (λ (s : Stage). s ≡ Instruction c → (b ≡ codeNumber c) × (busy ≡ false)) (busy && not (heardUnderWip (codeOf b)))
         (λ t e. absurd (omega (arith, ap stageKind e)))
         (λ t e.
@@ -83,11 +73,5 @@ module _ (c : Code) (top : ℕ) (busy : Bool) (known : isCode c Other ≡ false)
           by-cases busy (λ u. absurd (true-false (rw (u, q, deaf)) t)) (λ u. u),
         ))
 
-    told : (bs : List ℕ) → stagesAfter top busy bs Opened ≡ Instruction c → (bs ≡ codeNumber c ∷ []) × (busy ≡ false)
-    told [] e = absurd (omega (arith, ap stageKind e))
-    told (b ∷ []) e = let p = first-told b e in (ap (λ (x : ℕ). x ∷ []) (p .0), p .1)
-    told (a ∷ b ∷ bs) e =
-        absurd (stages-past bs _ (stage-past b (firstStage busy (codeOf a)) (first-stage (codeOf a))) .1 e)
-
-    pub alone-exactly : (bs : List ℕ) → (stagesAfter top busy bs Opened ≡ Instruction c) ↔ ((bs ≡ codeNumber c ∷ []) × (busy ≡ false))
-    alone-exactly bs = (told bs, λ p. rw (p .0, p .1) (ap Instruction (code-back c)))
+    pub first-exactly : (busy : Bool) (b : ℕ) → (firstStage busy (codeOf b) ≡ Instruction c) ↔ ((b ≡ codeNumber c) × (busy ≡ false))
+    first-exactly busy b = (told busy b, λ p. rw (p .0, p .1) (ap Instruction (code-back c)))

@@ -1,28 +1,30 @@
--- The promise of the latch, proved: of each act by the laws of its own crate, of a frame by an induction over its bytes.
+-- The promise of the latch, proved: of each act by the laws of its own crate, of a frame by an induction over its bytes and waits.
 -- Assumes nothing.
-use Prim.Native.Nat.{ℕ, suc, _<_, _≤_}
+use Prim.Native.Nat.{ℕ, _<_, _≤_}
 use native.Mathlib.Omega.{arith}
 use mathlib.Core.Path.{_≡_, refl, sym, ap, subst, _∙_}
-use mathlib.Core.Bool.{Bool, true, false, _&&_, true≢false, false≢true}
+use mathlib.Core.Bool.{Bool, true, false, not, _&&_, true≢false, false≢true}
 use mathlib.Core.Logic.{_↔_}
 use mathlib.Core.List.{List, [], _∷_}
-use borrow.Author.Tests.{ltb-true, ltb-false, leb-true, le-ltb, lt-ltb, le-leb, not-false}
-use lib.Dec.{leb, ltb}
+use borrow.Author.Tests.{eqb-true, eq-eqb, ltb-true, ltb-false, leb-true, le-ltb, lt-ltb, le-leb, not-false, not-true}
+use lib.Dec.{eqb, leb}
 use lib.ListN.{length}
 use Rattle.base.specs.Wait.{Waited}
-use Rattle.base.proofs.Tests.{by-cases, both-left, both-right, both-true}
+use Rattle.base.proofs.Tests.{by-cases, both-left, both-right, both-true, true-false}
 use Rattle.record.specs.declared.Act.{Act}
 use Rattle.record.specs.declared.Act.the-variants.{Select, Byte, End, Wait, Cut, Up}
 use Rattle.record.specs.declared.Code.{Code}
 use Rattle.record.specs.declared.Code.the-variants.{Eewrdi, Eewren, Other, Srread}
-use Rattle.record.specs.declared.Cycle.{Cycle}
 use Rattle.record.specs.declared.Device.{Device}
+use Rattle.record.specs.declared.Frame.{Frame}
 use Rattle.record.specs.declared.Guard.{Guard}
+use Rattle.record.specs.declared.Stage.{Stage}
 use Rattle.record.specs.declared.Stage.the-variants.{Opened, Instruction}
-use Rattle.record.specs.Codes.{codeNumber, isCode, heardUnderWip}
+use Rattle.record.specs.Codes.{codeOf, codeNumber, isCode, heardUnderWip}
+use Rattle.record.specs.Numbers.{stageKind}
 use Rattle.record.specs.Part.{topOf, bootsOf}
 use Rattle.record.specs.Stages.{selected}
-use Rattle.record.specs.World.{World, Bytes}
+use Rattle.record.specs.World.{World}
 use Rattle.refusals.specs.InRange.{InRange}
 use Rattle.refusals.specs.Refusal.{wrongArg, wrongPower, wrongSelect, setupRefusal}
 use Rattle.refusals.proofs.TableLaws as table
@@ -30,18 +32,17 @@ use Rattle.ticks.specs.Lines.{wip}
 use Rattle.ticks.specs.RecordTick.{ended}
 use Rattle.ticks.specs.Tick.{waited}
 use Rattle.ticks.proofs.WaitLaws.{Spent, wait-spent, spent-ended}
-use Rattle.frames.specs.Frame.{stageAfter, afterByte, afterSelect}
-use Rattle.frames.proofs.AloneLaws.{stagesAfter, alone-exactly}
+use Rattle.frames.specs.Frame.{firstStage, stageAfter, afterByte, afterSelect}
+use Rattle.frames.proofs.AloneLaws.{Past, stage-past, first-begun, first-exactly}
 use Rattle.frames.proofs.FrameLaws.{written-beside, stage-selected}
 use Rattle.ends.specs.End.{afterEnd}
 use Rattle.ends.proofs.LatchLaws.{end-cleared, end-set}
 use Rattle.power.proofs.PowerLaws.{cut-device, cut-wel, up-wel}
 use Rattle.acts.specs.Act.{Outcome, accepted, refusalIn, performed}
-use Rattle.acts.proofs.OutcomeLaws.{by-acceptance, changed-by, done-passed, done-as}
+use Rattle.acts.proofs.OutcomeLaws.{by-acceptance, performed-case, changed-by, done-passed, done-as}
 use Rattle.acts.proofs.SuitedLaws.{passed-range, performed-suited}
 use Rattle.run.specs.Claim.{ourChip, worldAfter}
-use Rattle.run.specs.Latch.{welOf, EndsAlone, Resets, cuts, ups, disables, completes, frameSent, SentAlone, Latch}
-use Rattle.run.specs.Script.{sent}
+use Rattle.run.specs.Latch.{welOf, EndsAlone, Resets, cuts, ups, disables, completes, Piece, byte, wait, actsOf, WholeBytes, framed, OnlyWaits, SentAlone, Latch}
 
 -- a wait: where a cycle ended in it WEL is clear, else as it was
 module _ (part n : ℕ) (w : World) (r : InRange part (w .device)) where
@@ -162,18 +163,14 @@ module _ (part : ℕ) (act : Act) (arg : ℕ) (w : World) where
     λ p. sym (passed-wel (done-passed part act arg w (p .0))) ∙ set-given part arg w act off (p .1),
   )
 
--- A frame sent whole. What its end finds: WEL as at the select, and the stage that its bytes brought.
-record Ended (part leftover : ℕ) (bs : List ℕ) (v x : World) : Type 0 where
-  last : Device
-  wel : last .guard .wel ≡ welOf v
-  stage : last .frame .stage ≡ stagesAfter (topOf part) (wip (v .device)) bs (v .device .frame .stage)
-  after : x .device ≡ afterEnd (topOf part) leftover last
-
--- a chip in a frame: no row of the setup holds, power is on, a frame is open
+-- A frame. In it no row of the setup holds, power is on, and the chip is selected.
 record InFrame (part : ℕ) (v : World) : Type 0 where
   setup : setupRefusal part (v .device) (length (v .eeprom)) (length (v .id)) ≡ 0
   power : v .device .power ≡ true
   chosen : selected (v .device .frame .stage) ≡ true
+
+abbrev stageOf : World → Stage
+stageOf v = v .device .frame .stage
 
 -- an act of a frame in it is done
 frame-done :
@@ -189,55 +186,109 @@ frame-done part act arg v a p s f =
       select = ap (wrongSelect act) (f .chosen) ∙ s;
     }))
 
--- what a byte leaves of power, cycle and stage
-record ByteLeft (part b : ℕ) (d e : Device) : Type 0 where
-  power : e .power ≡ d .power
-  wel : e .guard .wel ≡ d .guard .wel
-  busy : wip e ≡ wip d
-  stage : e .frame .stage ≡ stageAfter (topOf part) (wip d) b (d .frame .stage)
+-- a byte moves the stage, a wait does not, and both leave a frame
+record Moved (part : ℕ) (x : World) (s : Stage) : Type 0 where
+  frame : InFrame part x
+  stage : stageOf x ≡ s
 
-byte-left : (part b : ℕ) (d : Device) → ByteLeft part b d (afterByte (bootsOf part) (topOf part) b d)
+byte-moves :
+    (part b : ℕ) (v : World) → b < 256 → InFrame part v → Moved part (performed part Byte b v .after) (stageAfter (topOf part) (wip (v .device)) b (stageOf v))
 unfolding afterByte
-byte-left part b d =
-    let m = written-beside (bootsOf part) d b (d .frame .stage) in
+byte-moves part b v h f =
+    let o : performed part Byte b v ≡ accepted part b v Byte = frame-done part Byte b v (le-ltb 255 b (omega arith)) refl refl f in
+    let m = written-beside (bootsOf part) (v .device) b (stageOf v) in
+    let e = ap (λ (x : Outcome). stageOf (x .after)) o in
     record {
-      power = m .power;
-      wel = ap (λ (g : Guard). g .wel) (m .guard);
-      busy = ap (λ (y : Cycle). ltb 0 (y .left)) (m .cycle);
-      stage = refl;
+      frame =
+          record {
+            setup = performed-suited part Byte b v (f .setup);
+            power = ap (λ (x : Outcome). x .after .device .power) o ∙ m .power ∙ f .power;
+            chosen = ap selected e ∙ stage-selected (topOf part) (wip (v .device)) b (stageOf v) ∙ f .chosen;
+          };
+      stage = e;
     }
 
-sent-ends :
-    (part leftover : ℕ) → leftover < 8 → (bs : List ℕ) (v : World) → Bytes bs → InFrame part v
-    → Ended part leftover bs v (worldAfter ourChip part (sent leftover bs) v)
-unfolding worldAfter ourChip sent
-sent-ends part leftover h [] v z f =
+wait-moves : (part n : ℕ) (v : World) → InFrame part v → Moved part (performed part Wait n v .after) (stageOf v)
+wait-moves part n v f =
+    let k =
+    performed-case (λ (x : World). (x .device .power ≡ v .device .power) × (stageOf x ≡ stageOf v)) part Wait n v (refl, refl)
+    (λ e.
+    let s = wait-spent part (bootsOf part) n v (passed-range part Wait n v e) .still in
+    (s .power, ap (λ (x : Frame). x .stage) (s .frame))) in
     record {
-      last = v .device;
-      wel = refl;
-      stage = refl;
-      after = ap (λ (o : Outcome). o .after .device) (frame-done part End leftover v (le-ltb 7 leftover (omega arith)) refl refl f);
-    }
-sent-ends part leftover h (b ∷ bs) v z f =
-    let y : World = performed part Byte b v .after in
-    let m : ByteLeft part b (v .device) (y .device) =
-    subst (λ (o : Outcome). ByteLeft part b (v .device) (o .after .device)) (sym (frame-done part Byte b v (le-ltb 255 b (omega (arith, z 0))) refl refl f)) (byte-left part b (v .device)) in
-    let e =
-    sent-ends part leftover h bs y (λ k. z (suc k))
-    (record {
-      setup = performed-suited part Byte b v (f .setup);
-      power = m .power ∙ f .power;
-      chosen = ap selected (m .stage) ∙ stage-selected (topOf part) (wip (v .device)) b (v .device .frame .stage) ∙ f .chosen;
-    }) in
-    record {
-      last = e .last;
-      wel = e .wel ∙ m .wel;
-      stage = e .stage ∙ (λ i. stagesAfter (topOf part) (m .busy i) bs (m .stage i));
-      after = e .after;
+      frame = record { setup = performed-suited part Wait n v (f .setup); power = k .0 ∙ f .power; chosen = ap selected (k .1) ∙ f .chosen };
+      stage = k .1;
     }
 
--- from the select on
-module _ (part leftover : ℕ) (bs : List ℕ) (w : World) (e : performed part Select 0 w .number ≡ 0) (h : leftover < 8) (z : Bytes bs) where
+-- the stage that the pieces of a frame bring, of a code that a second byte moves on and that is not heard in a cycle
+module _ (part : ℕ) (c : Code) (known : isCode c Other ≡ false) (moved : isCode c Srread ≡ false) (deaf : heardUnderWip c ≡ false) where
+  abbrev Gone : Stage → Type 0
+  Gone = Past c (topOf part) known moved
+
+  abbrev after : List Piece → World → World
+  after ps v = worldAfter ourChip part (actsOf ps) v
+
+  -- past it no piece brings the frame back
+  gone : (ps : List Piece) (v : World) → WholeBytes ps → InFrame part v → Gone (stageOf v) → Gone (stageOf (after ps v))
+  unfolding worldAfter ourChip
+  gone [] v z f g = g
+  gone (byte b ∷ ps) v z f g =
+      let m = byte-moves part b v (z .0) f in
+      gone ps (performed part Byte b v .after) (z .1) (m .frame)
+      (subst Gone (sym (m .stage)) (stage-past c (topOf part) known moved (wip (v .device)) b (stageOf v) (g .0)))
+  gone (wait n ∷ ps) v z f g =
+      let m = wait-moves part n v f in
+      gone ps (performed part Wait n v .after) z (m .frame) (subst Gone (sym (m .stage)) g)
+
+  -- at it a byte brings the frame past it, and waits leave it there
+  there : (ps : List Piece) (v : World) → WholeBytes ps → InFrame part v → stageOf v ≡ Instruction c → (stageOf (after ps v) ≡ Instruction c) ↔ OnlyWaits ps
+  unfolding worldAfter ourChip
+  there [] v z f s = (λ e. tt, λ e. s)
+  there (byte b ∷ ps) v z f s =
+      let m = byte-moves part b v (z .0) f in
+      let g : Gone (stageOf (performed part Byte b v .after)) =
+      subst Gone (sym (m .stage))
+      (stage-past c (topOf part) known moved (wip (v .device)) b (stageOf v) (λ e. omega (arith, ap stageKind (sym s ∙ e)))) in
+      (λ e. gone ps (performed part Byte b v .after) (z .1) (m .frame) g .1 e, λ e. absurd e)
+  there (wait n ∷ ps) v z f s = let m = wait-moves part n v f in there ps (performed part Wait n v .after) z (m .frame) (m .stage ∙ s)
+
+  -- from the select on
+  alone :
+      (ps : List Piece) (v : World) → WholeBytes ps → InFrame part v → stageOf v ≡ Opened
+      → (stageOf (after ps v) ≡ Instruction c) ↔ SentAlone part (codeNumber c) ps v
+  unfolding worldAfter ourChip
+  alone [] v z f s = (λ e. omega (arith, ap stageKind (sym s ∙ e)), λ e. absurd e)
+  alone (byte b ∷ ps) v z f s =
+      let x : World = performed part Byte b v .after in
+      let m = byte-moves part b v (z .0) f in
+      let q : stageOf x ≡ firstStage (wip (v .device)) (codeOf b) = m .stage ∙ ap (stageAfter (topOf part) (wip (v .device)) b) s in
+      let l = first-exactly c (topOf part) known moved deaf (wip (v .device)) b in (
+        λ e.
+            by-cases (eqb b (codeNumber c) && not (wip (v .device)))
+            (λ t.
+            let p : (b ≡ codeNumber c) × (wip (v .device) ≡ false) =
+            (eqb-true b (codeNumber c) (both-left _ (not (wip (v .device))) t), not-true (wip (v .device)) (both-right (eqb b (codeNumber c)) _ t)) in
+            (p .0, omega (arith, ltb-false 0 (v .device .cycle .left) (p .1)), there ps x (z .1) (m .frame) (q ∙ l .1 p) .0 e))
+            (λ t.
+            absurd
+            (gone ps x (z .1) (m .frame)
+            (subst Gone (sym q) (first-begun c (topOf part) known moved (wip (v .device)) (codeOf b), λ r. apart (l .0 r) t)) .1 e)),
+        λ p. there ps x (z .1) (m .frame) (q ∙ l .1 (p .0, le-ltb 0 (v .device .cycle .left) (omega (arith, p .1)))) .1 (p .2),
+      )
+    where
+      apart : (b ≡ codeNumber c) × (wip (v .device) ≡ false) → (eqb b (codeNumber c) && not (wip (v .device))) ≡ false → ⊥
+      apart p t = true-false (both-true (eq-eqb b (codeNumber c) (p .0)) (ap not (p .1))) t
+  alone (wait n ∷ ps) v z f s = let m = wait-moves part n v f in alone ps (performed part Wait n v .after) z (m .frame) (m .stage ∙ s)
+
+-- a frame stays one
+still-framed : (part : ℕ) (ps : List Piece) (v : World) → WholeBytes ps → InFrame part v → InFrame part (worldAfter ourChip part (actsOf ps) v)
+unfolding worldAfter ourChip
+still-framed part [] v z f = f
+still-framed part (byte b ∷ ps) v z f = still-framed part ps (performed part Byte b v .after) (z .1) (byte-moves part b v (z .0) f .frame)
+still-framed part (wait n ∷ ps) v z f = still-framed part ps (performed part Wait n v .after) z (wait-moves part n v f .frame)
+
+-- the frame of a select, up to its end
+module _ (part leftover : ℕ) (ps : List Piece) (w : World) (e : performed part Select 0 w .number ≡ 0) (h : leftover < 8) (z : WholeBytes ps) where
   abbrev v : World
   v = performed part Select 0 w .after
 
@@ -247,52 +298,41 @@ module _ (part leftover : ℕ) (bs : List ℕ) (w : World) (e : performed part S
   taken : table.Accepted part Select 0 (w .device) (length (w .eeprom)) (length (w .id))
   taken = table.accepted part Select 0 (w .device) _ _ (done-passed part Select 0 w e)
 
-  in-frame : InFrame part v
+  begun : InFrame part v
   unfolding afterSelect
-  in-frame =
+  begun =
       record {
         setup = performed-suited part Select 0 w (table.setup-passes part (w .device) _ _ (taken .setup));
         power = ap (λ (o : Outcome). o .after .device .power) opened ∙ not-false (w .device .power) (taken .power);
-        chosen = ap (λ (o : Outcome). selected (o .after .device .frame .stage)) opened;
+        chosen = ap (λ (o : Outcome). selected (stageOf (o .after))) opened;
       }
 
-  frame : Ended part leftover bs v (frameSent part leftover bs w)
-  unfolding worldAfter ourChip
-  frame = sent-ends part leftover h bs v z in-frame
-
-  wel-kept : frame .last .guard .wel ≡ welOf w
+  at-opened : stageOf v ≡ Opened
   unfolding afterSelect
-  wel-kept = frame .wel ∙ ap (λ (o : Outcome). welOf (o .after)) opened
-
-  stage-kept : frame .last .frame .stage ≡ stagesAfter (topOf part) (wip (w .device)) bs Opened
-  unfolding afterSelect
-  stage-kept = frame .stage ∙ ap (λ (o : Outcome). stagesAfter (topOf part) (wip (o .after .device)) bs (o .after .device .frame .stage)) opened
-
-  wel-after : welOf (frameSent part leftover bs w) ≡ afterEnd (topOf part) leftover (frame .last) .guard .wel
-  wel-after = ap (λ (x : Device). x .guard .wel) (frame .after)
-
-  -- the end finds a code's instruction exactly if its byte was sent alone
-  found :
-      (c : Code) → isCode c Other ≡ false → isCode c Srread ≡ false → heardUnderWip c ≡ false
-      → ((frame .last .frame .stage ≡ Instruction c) × (leftover ≡ 0)) ↔ SentAlone (codeNumber c) leftover bs w
-  found c o s d =
-      let a = alone-exactly c (topOf part) (wip (w .device)) o s d bs in (
-        λ p. let q = a .0 (sym stage-kept ∙ p .0) in (q .0, p .1, omega (arith, ltb-false 0 (w .device .cycle .left) (q .1))),
-        λ p. (stage-kept ∙ a .1 (p .0, le-ltb 0 (w .device .cycle .left) (omega (arith, p .2))), p .1),
-      )
+  at-opened = ap (λ (o : Outcome). stageOf (o .after)) opened
 
   -- so a law of the end is one of the frame
   moves :
       (c : Code) → isCode c Other ≡ false → isCode c Srread ≡ false → heardUnderWip c ≡ false → (b : Bool)
-      → (afterEnd (topOf part) leftover (frame .last) .guard .wel ≡ b) ↔ ((frame .last .frame .stage ≡ Instruction c) × (leftover ≡ 0))
-      → (welOf (frameSent part leftover bs w) ≡ b) ↔ SentAlone (codeNumber c) leftover bs w
-  moves c o s d b l = let f = found c o s d in (λ q. f .0 (l .0 (sym wel-after ∙ q)), λ q. wel-after ∙ l .1 (f .1 q))
+      → (afterEnd (topOf part) leftover (framed part ps w .device) .guard .wel ≡ b) ↔ ((stageOf (framed part ps w) ≡ Instruction c) × (leftover ≡ 0))
+      → (welOf (performed part End leftover (framed part ps w) .after) ≡ b) ↔ (SentAlone part (codeNumber c) ps v × (leftover ≡ 0))
+  moves c o s d b l =
+      let a = alone part c o s d ps v z begun at-opened in
+      let q : welOf (performed part End leftover (framed part ps w) .after) ≡ afterEnd (topOf part) leftover (framed part ps w .device) .guard .wel =
+      ap (λ (x : Outcome). welOf (x .after)) (frame-done part End leftover (framed part ps w) (le-ltb 7 leftover (omega arith)) refl refl (still-framed part ps v z begun)) in (
+        λ y. let p = l .0 (sym q ∙ y) in (a .0 (p .0), p .1),
+        λ y. q ∙ l .1 (a .1 (y .0), y .1),
+      )
 
-  frame-cleared : welOf w ≡ true → (welOf (frameSent part leftover bs w) ≡ false) ↔ SentAlone 0x04 leftover bs w
-  frame-cleared on = moves Eewrdi refl refl refl false (end-cleared (topOf part) leftover (frame .last) (wel-kept ∙ on))
+  frame-cleared :
+      welOf (framed part ps w) ≡ true
+      → (welOf (performed part End leftover (framed part ps w) .after) ≡ false) ↔ (SentAlone part 0x04 ps v × (leftover ≡ 0))
+  frame-cleared on = moves Eewrdi refl refl refl false (end-cleared (topOf part) leftover (framed part ps w .device) on)
 
-  frame-set : welOf w ≡ false → (welOf (frameSent part leftover bs w) ≡ true) ↔ SentAlone 0x06 leftover bs w
-  frame-set off = moves Eewren refl refl refl true (end-set (topOf part) leftover (frame .last) (wel-kept ∙ off))
+  frame-set :
+      welOf (framed part ps w) ≡ false
+      → (welOf (performed part End leftover (framed part ps w) .after) ≡ true) ↔ (SentAlone part 0x06 ps v × (leftover ≡ 0))
+  frame-set off = moves Eewren refl refl refl true (end-set (topOf part) leftover (framed part ps w .device) off)
 
 -- The promise.
 pub latch : Latch

@@ -12,7 +12,7 @@ use lib.Dec.{eqb, ltb}
 use lib.ListN.{length, getD}
 use Rattle.base.specs.Words.{bit}
 use Rattle.base.specs.Wait.{Waited}
-use Rattle.base.proofs.Tests.{by-cases, pick-when, true-false}
+use Rattle.base.proofs.Tests.{by-cases, true-false}
 use Rattle.record.specs.declared.Act.{Act}
 use Rattle.record.specs.declared.Act.the-variants.{Select, Byte, End, Wait, Cut, Up}
 use Rattle.record.specs.declared.Device.{Device}
@@ -42,7 +42,7 @@ use Rattle.power.specs.Power.{afterCut, cutWorld, afterUp}
 use Rattle.power.proofs.PowerLaws.{cut-device, cut-beside}
 use Rattle.power.proofs.StampLaws.{cut-mark, cut-stamps, cut-held, fresh-stamp, cut-lost, up-mark, up-stamps, up-leaves}
 use Rattle.acts.specs.Act.{Outcome, accepted, refusalIn, performed}
-use Rattle.acts.proofs.OutcomeLaws.{answered-by-table, by-acceptance, changed-by, done-passed, done-as}
+use Rattle.acts.proofs.OutcomeLaws.{answered-by-table, by-acceptance, performed-case, changed-by, done-passed, done-as}
 use Rattle.acts.proofs.SuitedLaws.{passed-range}
 use Rattle.acts.proofs.ValidLaws.{Valid, performed-valid, fresh-valid}
 use Rattle.run.specs.Claim.{Input, ourChip, worldAfter}
@@ -70,14 +70,6 @@ day-stage (Reading p) = inr (other-kind (Reading p) (λ e. omega arith))
 day-stage (Writing p) = day-place p
 day-stage (Second q) = inr (other-kind (Second q) (λ e. omega arith))
 day-stage (Over l) = inr (other-kind (Over l) (λ e. omega arith))
-
--- What holds of the world, and of what the act leaves where the table accepts it, holds after the act.
-performed-case :
-    (P : World → Type 0) (part : ℕ) (act : Act) (arg : ℕ) (w : World) → P w → (refusalIn part act arg w ≡ 0 → P (accepted part arg w act .after))
-    → P (performed part act arg w .after)
-unfolding performed
-performed-case P part act arg w p q =
-    pick-when (λ (o : Outcome). P (o .after)) (eqb (refusalIn part act arg w) 0) (λ t. q (eqb-true (refusalIn part act arg w) 0 t)) (λ f. p)
 
 -- A wait leaves time-stamps, VBAT and mark; select and end leave registers and mark.
 wait-stays : (part n : ℕ) (w : World) → StampsStay (w .device) (waited (bootsOf part) n w .after .device)

@@ -1,4 +1,4 @@
--- What moves the write enable latch, WEL: the whole list, of every act on any chip, and of every frame that is sent whole.
+-- What moves the write enable latch, WEL: the whole list, of every act on any chip, and of the end of every frame.
 -- Assumes nothing.
 use Prim.Native.Nat.{ℕ, _<_}
 use mathlib.Core.Path.{_≡_}
@@ -6,15 +6,15 @@ use mathlib.Core.Bool.{Bool, true, false}
 use mathlib.Core.Logic.{_↔_}
 use mathlib.Core.List.{List, [], _∷_}
 use Rattle.record.specs.declared.Act.{Act}
-use Rattle.record.specs.declared.Act.the-variants.{Select, End, Wait, Cut, Up}
+use Rattle.record.specs.declared.Act.the-variants.{Select, Byte, End, Wait, Cut, Up}
 use Rattle.record.specs.declared.Code.{Code}
 use Rattle.record.specs.declared.Code.the-variants.{Eewrdi, Eewren}
 use Rattle.record.specs.declared.Device.{Device}
 use Rattle.record.specs.declared.Stage.the-variants.{Instruction}
-use Rattle.record.specs.World.{World, Bytes}
+use Rattle.record.specs.World.{World}
 use Rattle.acts.specs.Act.{performed}
-use Rattle.run.specs.Claim.{ourChip, worldAfter}
-use Rattle.run.specs.Script.{raggedFrame}
+use Rattle.run.specs.Claim.{Input, ourChip, worldAfter}
+use Rattle.run.specs.Script.{does}
 
 -- WEL of a chip with its memories
 abbrev pub welOf : World → Bool
@@ -36,13 +36,37 @@ pub data Resets (act : Act) (arg used : ℕ) (d : Device) : Type 0 where
   -- F28. a wait that used all the ticks that a cycle had left
   completes : act ≡ Wait → 0 < d .cycle .left → used ≡ d .cycle .left → Resets act arg used d
 
--- a frame sent whole: select, its bytes, its end with the leftover bits
-abbrev pub frameSent : ℕ → ℕ → List ℕ → World → World
-frameSent part leftover bs w = worldAfter ourChip part (raggedFrame leftover bs) w
+-- what comes in a frame: bytes, and waits between them
+pub data Piece : Type 0 where
+  byte : ℕ → Piece
+  wait : ℕ → Piece
 
--- F19, F31. the frame is one byte and no bit more, and finds no cycle
-abbrev pub SentAlone : ℕ → ℕ → List ℕ → World → Type 0
-SentAlone byte leftover bs w = (bs ≡ byte ∷ []) × (leftover ≡ 0) × (w .device .cycle .left ≡ 0)
+abbrev pub actsOf : List Piece → List Input
+actsOf [] = []
+actsOf (byte b ∷ ps) = does Byte b ∷ actsOf ps
+actsOf (wait n ∷ ps) = does Wait n ∷ actsOf ps
+
+-- every byte is one; a wait may ask for any number
+abbrev pub WholeBytes : List Piece → Type 0
+WholeBytes [] = Unit {0}
+WholeBytes (byte b ∷ ps) = (b < 256) × WholeBytes ps
+WholeBytes (wait n ∷ ps) = WholeBytes ps
+
+-- the chip before the end of a frame
+abbrev pub framed : ℕ → List Piece → World → World
+framed part ps w = worldAfter ourChip part (actsOf ps) (performed part Select 0 w .after)
+
+-- no byte came
+abbrev pub OnlyWaits : List Piece → Type 0
+OnlyWaits [] = Unit {0}
+OnlyWaits (byte b ∷ ps) = ⊥
+OnlyWaits (wait n ∷ ps) = OnlyWaits ps
+
+-- F19, F31. One byte came, this one, at a moment when no cycle ran; the rest is waits.
+abbrev pub SentAlone : ℕ → ℕ → List Piece → World → Type 0
+SentAlone part code [] w = ⊥
+SentAlone part code (byte b ∷ ps) w = (b ≡ code) × (w .device .cycle .left ≡ 0) × OnlyWaits ps
+SentAlone part code (wait n ∷ ps) w = SentAlone part code ps (performed part Wait n w .after)
 
 -- R14. The promise.
 pub record Latch : Type 0 where
@@ -55,11 +79,14 @@ pub record Latch : Type 0 where
   pub set :
       (part : ℕ) (act : Act) (arg : ℕ) (w : World) → welOf w ≡ false
       → (welOf (performed part act arg w .after) ≡ true) ↔ ((performed part act arg w .number ≡ 0) × EndsAlone Eewren act arg (w .device))
-  -- Of frames, whatever their bytes, to a chip that a select would open: one that finds WEL set leaves it clear exactly if it is EEWRDI, 04h, alone.
+  -- Of every frame that a select opens, whatever bytes and waits come in it: its end, where WEL is set, clears it exactly if the frame is EEWRDI, 04h,
+  -- alone, heard, with no leftover bit;
   pub frameCleared :
-      (part leftover : ℕ) (bs : List ℕ) (w : World) → performed part Select 0 w .number ≡ 0 → leftover < 8 → Bytes bs → welOf w ≡ true
-      → (welOf (frameSent part leftover bs w) ≡ false) ↔ SentAlone 0x04 leftover bs w
-  -- one that finds it clear leaves it set exactly if it is EEWREN, 06h, alone
+      (part leftover : ℕ) (ps : List Piece) (w : World) → performed part Select 0 w .number ≡ 0 → leftover < 8 → WholeBytes ps → welOf (framed part ps w) ≡ true
+      → (welOf (performed part End leftover (framed part ps w) .after) ≡ false)
+      ↔ (SentAlone part 0x04 ps (performed part Select 0 w .after) × (leftover ≡ 0))
+  -- and where WEL is clear, sets it exactly if it is EEWREN, 06h, so.
   pub frameSet :
-      (part leftover : ℕ) (bs : List ℕ) (w : World) → performed part Select 0 w .number ≡ 0 → leftover < 8 → Bytes bs → welOf w ≡ false
-      → (welOf (frameSent part leftover bs w) ≡ true) ↔ SentAlone 0x06 leftover bs w
+      (part leftover : ℕ) (ps : List Piece) (w : World) → performed part Select 0 w .number ≡ 0 → leftover < 8 → WholeBytes ps → welOf (framed part ps w) ≡ false
+      → (welOf (performed part End leftover (framed part ps w) .after) ≡ true)
+      ↔ (SentAlone part 0x06 ps (performed part Select 0 w .after) × (leftover ≡ 0))
