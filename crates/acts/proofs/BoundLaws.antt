@@ -2,7 +2,7 @@
 -- Assumes nothing.
 use Prim.Native.Nat.{ℕ, _<_, _≤_}
 use native.Mathlib.Omega.{arith}
-use mathlib.Core.Path.{_≡_}
+use mathlib.Core.Path.{_≡_, subst}
 use mathlib.Core.Bool.{false}
 use borrow.Author.Tests.{eqb-true, ltb-false}
 use lib.Dec.{eqb}
@@ -17,7 +17,9 @@ use Rattle.record.specs.World.{World}
 use Rattle.refusals.specs.Refusal.{wrongArg}
 use Rattle.refusals.proofs.TableLaws as table
 use Rattle.ticks.specs.Tick.{tick, lineChanged}
-use Rattle.frames.proofs.ReplyLaws.{reply-byte}
+use Rattle.frames.specs.Frame.{nextReply, leftoverReply}
+use Rattle.frames.proofs.ReplyLaws.{ByteOrNone, reply-or-none, reply-byte}
+use Rattle.frames.proofs.LeftoverLaws.{first-byte}
 use Rattle.power.proofs.PowerLaws.{cut-most}
 use Rattle.acts.specs.Act.{Outcome, accepted, refusalIn, performed}
 use Rattle.acts.proofs.OutcomeLaws.{never-seven}
@@ -42,11 +44,12 @@ accepted-count part arg w Wait t = omega (arith, ltb-false waitLimit arg t, wait
 accepted-count part arg w Cut t = omega (arith, cut-most arg (w .device))
 accepted-count part arg w Up t = omega arith
 
--- a byte alone has a reply
+-- a byte has a reply, and an end the first bits of it
 accepted-reply : (part arg : ℕ) (w : World) (act : Act) → Valid part w → (b : ℕ) → accepted part arg w act .reply ≡ Driven b → b < 256
 accepted-reply part arg w Select v b e = absurd (not-driven b e)
 accepted-reply part arg w Byte v b e = reply-byte part w (v .range) (v .shaped) b e
-accepted-reply part arg w End v b e = absurd (not-driven b e)
+accepted-reply part arg w End v b e =
+    unfold leftoverReply in subst ByteOrNone e (first-byte arg (nextReply (w .eeprom) (w .id) (w .device)) (reply-or-none part w (v .range) (v .shaped)))
 accepted-reply part arg w Wait v b e = absurd (not-driven b e)
 accepted-reply part arg w Cut v b e = absurd (not-driven b e)
 accepted-reply part arg w Up v b e = absurd (not-driven b e)

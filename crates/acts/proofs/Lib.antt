@@ -4,3 +4,4 @@ pub mod ValidLaws
 pub mod PageLaws
 pub mod OutcomeLaws
 pub mod BoundLaws
+pub mod LeftoverLaws

@@ -16,7 +16,7 @@ use Rattle.record.specs.Part.{topOf, bootsOf}
 use Rattle.record.specs.World.{World, world, moved}
 use Rattle.refusals.specs.Refusal.{refusalOf}
 use Rattle.ticks.specs.Tick.{waited}
-use Rattle.frames.specs.Frame.{nextReply, afterByte, afterSelect}
+use Rattle.frames.specs.Frame.{nextReply, leftoverReply, afterByte, afterSelect}
 use Rattle.ends.specs.End.{afterEnd}
 use Rattle.power.specs.Power.{cutCount, cutWorld, afterUp}
 use Rattle.acts.specs.declared.Answer.{Answer}
@@ -39,12 +39,14 @@ refused number w = outcome number Off 0 w
 abbrev pub waitedOutcome : Waited World → Outcome
 waitedOutcome r = outcome 0 Off (r .used) (r .after)
 
--- A1, A3, A5, A6. What each act does that no row refuses: time passes in a wait alone, a byte alone has a reply, a wait and a cut a count.
+-- A1, A3, A5, A6, A38. What each act does that no row refuses: time passes in a wait alone; a byte has a reply, an end the bits that it leaves
+-- of one, a wait and a cut a count.
 abbrev pub accepted : ℕ → ℕ → World → Act → Outcome
 accepted part arg w Select = outcome 0 Off 0 (moved w (afterSelect (w .device)))
 accepted part arg w Byte =
     outcome 0 (nextReply (w .eeprom) (w .id) (w .device)) 0 (moved w (afterByte (bootsOf part) (topOf part) arg (w .device)))
-accepted part arg w End = outcome 0 Off 0 (moved w (afterEnd (topOf part) arg (w .device)))
+accepted part arg w End =
+    outcome 0 (leftoverReply arg (w .eeprom) (w .id) (w .device)) 0 (moved w (afterEnd (topOf part) arg (w .device)))
 accepted part arg w Wait = waitedOutcome (waited (bootsOf part) arg w)
 accepted part arg w Cut = outcome 0 Off (cutCount arg (w .device)) (cutWorld arg w)
 accepted part arg w Up = outcome 0 Off 0 (moved w (afterUp (w .device)))
@@ -64,3 +66,7 @@ outcomeOf r ee id = outcome (r .number) (r .reply) (r .count) (world (r .device)
 -- an answer with no reply
 abbrev pub silentAnswer : ℕ → ℕ → Device → Answer
 silentAnswer number count d = record { number = number; reply = Off; count = count; device = d }
+
+-- an answer with a reply and no count
+abbrev pub repliedAnswer : Reply → Device → Answer
+repliedAnswer reply d = record { number = 0; reply = reply; count = 0; device = d }

@@ -11,7 +11,7 @@ ghost use Rattle.refusals.specs.Refusal.{refusalOf, setupRefusal};
 ghost use Rattle.record.specs.World.{world};
 ghost use Rattle.ticks.specs.Tick.{waited};
 ghost use Rattle.power.specs.Power.{cutCount, cutWorld};
-ghost use Rattle.acts.specs.Act.{silentAnswer, outcomeOf, outcome, waitedOutcome, accepted, performed};
+ghost use Rattle.acts.specs.Act.{silentAnswer, repliedAnswer, outcomeOf, outcome, waitedOutcome, accepted, performed};
 ghost use Rattle.record.specs.declared.Reply.the-variants.{Off};
 
 pub mod page; // page.rt: a page stored under a mask, a memory erased
@@ -32,6 +32,18 @@ fn silent(number: u8, count: u64, device: Device) -> Answer
         number,
         reply: Reply::Off,
         count,
+        device,
+    }
+}
+
+// An answer of an act that is done, with its reply and no count.
+fn replied(reply: Reply, device: Device) -> Answer
+    ensures { λ r. ⌜ r ≡ repliedAnswer reply device ⌝ }
+{
+    Answer {
+        number: 0,
+        reply,
+        count: 0,
         device,
     }
 }
@@ -93,14 +105,13 @@ fn accepted_act(
         Act::Byte => {
             let reply = frames::reply::next_reply(eeprom, id, d);
             let device = frames::byte::after_byte(boots, top, v, d);
-            Answer {
-                number: 0,
-                reply,
-                count: 0,
-                device,
-            }
+            replied(reply, device)
         }
-        Act::End => silent(0, 0, ends::end::after_end(top, v, d)),
+        Act::End => {
+            let reply = frames::reply::leftover_reply(v, eeprom, id, d);
+            let device = ends::end::after_end(top, v, d);
+            replied(reply, device)
+        }
         Act::Wait => wait_act(boots, arg, d, eeprom, id),
         Act::Cut => cut_act(v, d, eeprom, id),
         Act::Up => silent(0, 0, power::cut::after_up(d)),

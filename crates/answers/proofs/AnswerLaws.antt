@@ -25,7 +25,7 @@ use Rattle.refusals.proofs.RangeLaws.{in-range, out-of-range, fresh-facts}
 use Rattle.refusals.proofs.TableLaws.{setup-passed, setup-passes}
 use Rattle.acts.specs.declared.Answer.{Answer}
 use Rattle.acts.specs.Act.{Outcome, refusalIn, performed, outcomeOf}
-use Rattle.acts.proofs.OutcomeLaws.{done-zero, never-seven}
+use Rattle.acts.proofs.OutcomeLaws.{done-zero, never-seven, refused-same}
 use Rattle.acts.proofs.SuitedLaws.{performed-follows}
 use Rattle.lines.specs.declared.Request.{Request}
 use Rattle.lines.specs.declared.Request.the-variants.{PartLine, ActLine, Bad}
@@ -33,9 +33,9 @@ use Rattle.text.specs.Buffer.{Buffer, append}
 use Rattle.lines.specs.Request.{requestOf}
 use Rattle.lines.specs.declared.Out.{Out}
 use Rattle.lines.specs.declared.Out.the-variants.{Z}
-use Rattle.lines.specs.Print.{outOf}
+use Rattle.lines.specs.Print.{replyOut, showsCount, outOf}
 use Rattle.lines.proofs.LineLaws.{bad-line}
-use Rattle.answers.specs.Answer.{Setup, setup, noPart, freshSetup, LineAnswer, answer, refusedLine, partAnswer, outcomeAnswer, actAnswer, requestAnswer, lineAnswer, SevenRow, bad, early, again, lineOf, answerText, Held, eepromBytes, idBytes, setupIn, holding, Shown, shownIn, ready, lineIn}
+use Rattle.answers.specs.Answer.{Setup, setup, noPart, freshSetup, LineAnswer, answer, refusedLine, partAnswer, outcomeAnswer, actAnswer, requestAnswer, lineAnswer, SevenRow, bad, early, again, RepliesShown, lineOf, answerText, Held, eepromBytes, idBytes, setupIn, holding, Shown, shownIn, ready, lineIn}
 
 -- A part's line is answered 7 only after a part, an act's line only before one.
 part-below : (arg : ℕ) (s : Setup) → noPart s ≡ true → partAnswer arg s .number < 7
@@ -64,6 +64,21 @@ seven-asked line s (ActLine act arg) e = (
   act-seven line s act arg e,
 )
 seven-asked line s Bad e = (λ k. bad (bad-line line .0 e), λ q. refl)
+
+-- what is shown of an act without a count: its reply, where it is done, and none, which is a refused act's reply too
+outcome-shown : (part : ℕ) (act : Act) (arg : ℕ) (s : Setup) → showsCount act ≡ false
+    → outcomeAnswer part act (performed part act arg (s .chip)) .out ≡ replyOut (performed part act arg (s .chip) .reply)
+outcome-shown part act arg s c =
+    by-cases (eqb (performed part act arg (s .chip) .number) 0)
+    (λ t. sym (yes _ Z t) ∙ sym (no _ _ c))
+    (λ t. sym (no _ Z t) ∙ ap replyOut (sym (ap (λ (o : Outcome). o .reply) (refused-same part act arg (s .chip) t))))
+
+pub replies-shown : RepliesShown
+unfolding RepliesShown lineAnswer
+replies-shown line act arg s e f c =
+    ap (λ (r : Request). requestAnswer r s .out) e
+    ∙ ap (λ (a : LineAnswer). a .out) (sym (no (refusedLine 7 s) _ f))
+    ∙ outcome-shown (s .part) act arg s c
 
 -- number 7 is given exactly when the line is bad, or is an act's before a part, or a part's after one
 pub seven-exactly : (line : List ℕ) (s : Setup) → (lineAnswer line s .number ≡ 7) ↔ SevenRow line s

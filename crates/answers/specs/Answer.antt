@@ -20,7 +20,7 @@ use Rattle.lines.specs.declared.Request.the-variants.{PartLine, ActLine, Bad}
 use Rattle.lines.specs.declared.Out.{Out}
 use Rattle.lines.specs.declared.Out.the-variants.{Z}
 use Rattle.lines.specs.Request.{badLine, requestOf}
-use Rattle.lines.specs.Print.{outOf, answerLine}
+use Rattle.lines.specs.Print.{replyOut, showsCount, outOf, answerLine}
 use Rattle.answers.specs.declared.Progress.{Progress}
 
 -- the part that was accepted, 0 while there is none, and its chip with the memories
@@ -79,6 +79,13 @@ pub data SevenRow (line : List ℕ) (s : Setup) : Type 0 where
   early : (act : Act) (arg : ℕ) → requestOf line ≡ ActLine act arg → noPart s ≡ true → SevenRow line s
   -- T6. It names a part, and there is one.
   again : (arg : ℕ) → requestOf line ≡ PartLine arg → noPart s ≡ false → SevenRow line s
+
+-- T8, A4, A38. What a line shows of an act that has no count, once there is a part: its reply, a byte's or the bits of an end, z for none; said apart
+-- from the choices above.
+pub RepliesShown : Type 0
+RepliesShown =
+    (line : List ℕ) (act : Act) (arg : ℕ) (s : Setup) → requestOf line ≡ ActLine act arg → noPart s ≡ false → showsCount act ≡ false
+    → lineAnswer line s .out ≡ replyOut (performed (s .part) act arg (s .chip) .reply)
 
 -- T9. A level is high without a part, and where the chip does not hold it low.
 abbrev pub levelHigh : ℕ → Bool → Bool

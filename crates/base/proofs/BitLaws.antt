@@ -2,15 +2,16 @@
 -- Assumes nothing.
 use mathlib.Core.Path.{_≡_, refl, sym, ap, _∙_}
 use mathlib.Core.Bool.{false, Bool·beq, _&&_, _||_}
-use Prim.Native.Nat.{ℕ, zero, suc, _-_, _/_, _%_, _<_, _≤_, _^_, min, max}
+use mathlib.Core.List.{_∷_, _++_}
+use Prim.Native.Nat.{ℕ, zero, suc, _+_, _-_, _/_, _%_, _<_, _≤_, _^_, min, max}
 use native.Mathlib.Omega.{arith}
 use lib.Dec.{eqb, ltb}
 use borrow.Author.Tests.{eqb-true, eq-eqb, ltb-true, lt-ltb}
 use lib.Arith.{bin-ind}
 use lib.Bits.{bitAnd, bitOr, and-step, and-shr, and-comm, and-le-l, or-step, or-shr, or-add-and}
-use lib.Pow.{pow-pos}
+use lib.Pow.{pow-pos, shr-shr}
 use lib.Count.{ones, onesIn}
-use Rattle.base.specs.Words.{every, bit, members}
+use Rattle.base.specs.Words.{every, bit, shifted, members}
 use Rattle.base.proofs.Tests.{same→eq, true-T, flag-below}
 use Rattle.base.proofs.Every.{every-at, same-below}
 
@@ -125,3 +126,12 @@ pub and-bit : (a b k : ℕ) → bit (bitAnd a b) k ≡ (bit a k && bit b k)
 and-bit a b k =
     ap (λ (n : ℕ). eqb (n % 2) 1) (and-shr a b k) ∙ ap (λ (n : ℕ). eqb n 1) (low-digit (a / 2 ^ k) (b / 2 ^ k))
     ∙ both-one (a / 2 ^ k % 2) (b / 2 ^ k % 2) (omega arith) (omega arith)
+
+-- of k + m bits the first k are those of the number without its last m
+pub shifted-split : (k m b : ℕ) → shifted (k + m) b ≡ shifted k (b / 2 ^ m) ++ shifted m b
+unfolding shifted
+shifted-split zero m b = ap (λ (n : ℕ). shifted n b) (let e : 0 + m ≡ m = omega arith in e)
+shifted-split (suc k) m b =
+    let s : suc k + m ≡ suc (k + m) = omega arith in
+    let e : b / 2 ^ (k + m) ≡ b / 2 ^ m / 2 ^ k = ap (λ (n : ℕ). b / 2 ^ n) (let c : k + m ≡ m + k = omega arith in c) ∙ sym (shr-shr b m k) in
+    ap (λ (n : ℕ). shifted n b) s ∙ (λ i. eqb (e i % 2) 1 ∷ shifted-split k m b i)

@@ -21,6 +21,11 @@ every f (suc n) = every f n && f n
 abbrev pub bit : ℕ → ℕ → Bool
 bit b k = eqb (b / 2 ^ k % 2) 1
 
+-- the lowest n bits of a number, the most significant first
+unfoldable pub shifted : ℕ → ℕ → List Bool
+shifted zero b = []
+shifted (suc n) b = bit b n ∷ shifted n b
+
 -- the number that is 1 where the test holds, else 0
 abbrev pub flag : Bool → ℕ
 flag b = pick b 1 0

@@ -1,5 +1,5 @@
 -- The three demands and the requests, proved by citing: the table's theorem and those of a tape's lines, the functions' proofs, demand 3, the law of every
--- feeding, the promises of the time-stamps and of the latch.
+-- feeding, the promises of the time-stamps, the latch and the leftover bits.
 -- Assumes nothing.
 use mathlib.Core.Path.{sym, _∙_}
 use borrow.Author.Tests.{ne-eqb}
@@ -7,10 +7,11 @@ use Rattle.refusals.proofs.TableLaws.{exactly}
 use Rattle.acts.proofs.OutcomeLaws.{answered-by-table, refused-same}
 use Rattle.run.proofs.DemandThree.{demand-three}
 use Rattle.run.proofs.LatchLaws.{latch}
+use Rattle.run.proofs.LeftoverLaws.{leftover-bits}
 use Rattle.run.proofs.StampLaws.{time-stamps}
 use Rattle.run.proofs.WrongLaws.{wrong-chips-fail}
 use Rattle.lines.proofs.LineLaws.{asks-exactly}
-use Rattle.answers.proofs.AnswerLaws.{seven-exactly, refused-setup}
+use Rattle.answers.proofs.AnswerLaws.{seven-exactly, replies-shown, refused-setup}
 use Rattle.feeding.proofs.FeedLaws.{any-feeding}
 use Rattle.acts.proofs.perform.Met as perform
 use Rattle.run.proofs.run.Met as run
@@ -54,4 +55,13 @@ accountable =
     }
 
 pub demands : Demands
-demands = record { total = total; exact = exact; accountable = accountable; timeStamps = time-stamps; latch = latch }
+demands =
+    record {
+      total = total;
+      exact = exact;
+      accountable = accountable;
+      timeStamps = time-stamps;
+      latch = latch;
+      leftoverBits = leftover-bits;
+      repliesShown = replies-shown;
+    }

@@ -14,11 +14,12 @@ use Rattle.refusals.specs.Rows.{TableGives}
 use Rattle.acts.specs.Act.{performed, refused}
 use Rattle.run.specs.Claim.{ourChip, DemandThree}
 use Rattle.run.specs.Latch.{Latch}
+use Rattle.run.specs.Leftover.{LeftoverBits}
 use Rattle.run.specs.Stamps.{TimeStamps}
 use Rattle.run.specs.Wrong.{WrongChipsFail}
 use Rattle.lines.specs.declared.Name.{Name}
 use Rattle.lines.specs.Request.{requestOf, asked, unknownName, Spelled}
-use Rattle.answers.specs.Answer.{Setup, lineAnswer, SevenRow}
+use Rattle.answers.specs.Answer.{Setup, lineAnswer, SevenRow, RepliesShown}
 use Rattle.feeding.specs.Feeding.{AnyFeeding}
 use Rattle.acts.proofs.perform.Statement as perform
 use Rattle.run.proofs.run.Statement as run
@@ -78,3 +79,6 @@ pub record Demands : Type 2 where
   pub timeStamps : TimeStamps
   -- what sets the latch, and the whole list of what resets it
   pub latch : Latch
+  -- the bits that an end answers of the exchange that it broke off; and a tape shows them
+  pub leftoverBits : LeftoverBits
+  pub repliesShown : RepliesShown

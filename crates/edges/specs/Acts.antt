@@ -33,7 +33,7 @@ use Rattle.ticks.specs.Oscillator.{oscillatorTick}
 use Rattle.ticks.specs.Watchdog.{watchdogTick}
 use Rattle.ticks.specs.Clock.{calendarTick}
 use Rattle.ticks.specs.Tick.{cycleDevice, cycleTick, clockwork, tick}
-use Rattle.frames.specs.Frame.{statusByte, nextReply, afterByte, afterSelect}
+use Rattle.frames.specs.Frame.{statusByte, nextReply, leftoverReply, afterByte, afterSelect}
 use Rattle.ends.specs.Write.{carried, cycleAfter, welAfter}
 use Rattle.ends.specs.End.{afterEnd}
 use Rattle.power.specs.Power.{afterCut, cutCount, cutWorld, afterUp}
@@ -148,7 +148,7 @@ FramesShown =
     × (after 1 (frameOf (0x44 ∷ 0x99 ∷ [])) busy ≡ scene busyRegs (counts 5 32 0 7 8))
     × (after 1 (frameOf (0x44 ∷ 0x99 ∷ 0x99 ∷ [])) busy ≡ busy)
     × (after 1 (raggedFrame 7 (0x44 ∷ [])) busy ≡ busy)
-    -- A5, A6, A7, A34. reply, number and count of each act, and of one that is refused
+    -- A5, A6, A7, A34, A38. reply, number and count of each act, and of one that is refused
     × (performed 1 Select 0 busy .reply ≡ Off) × (numbered (performed 1 Select 0 busy) ≡ 0 ∷ 0 ∷ [])
     × (numbered (performed 1 Byte 0x13 (performed 1 Select 0 busy .after)) ≡ 0 ∷ 0 ∷ [])
     × (performed 1 End 0 (performed 1 Select 0 busy .after) .reply ≡ Off) × (numbered (performed 1 End 0 (performed 1 Select 0 busy .after)) ≡ 0 ∷ 0 ∷ [])
@@ -222,7 +222,7 @@ ActsShown = RegistersShown × FramesShown × PowerShown
 
 -- Each of them computes.
 pub acts-shown : ActsShown
-unfolding ActsShown RegistersShown FramesShown PowerShown validField after replies bytesAnswered afterBytes drivenAll leapYear worldAfter ourChip sent fresh performed refusalOf outOfRange clockOut frameOut cycleOut powerOut bitOutside every statusByte afterSelect afterByte nextReply readClock writeClock afterWrite afterEnd carried cycleAfter welAfter afterCut cutCount cutWorld afterUp stamped unstamped waitedBy tick cycleTick cycleDevice clockwork changed irqLow wdoLow oscillatorTick watchdogTick calendarTick storeUnder members
+unfolding ActsShown RegistersShown FramesShown PowerShown validField after replies bytesAnswered afterBytes drivenAll leapYear worldAfter ourChip sent fresh performed refusalOf outOfRange clockOut frameOut cycleOut powerOut bitOutside every statusByte afterSelect afterByte nextReply leftoverReply readClock writeClock afterWrite afterEnd carried cycleAfter welAfter afterCut cutCount cutWorld afterUp stamped unstamped waitedBy tick cycleTick cycleDevice clockwork changed irqLow wdoLow oscillatorTick watchdogTick calendarTick storeUnder members
 acts-shown = (
   (refl, refl, refl, refl, refl, refl, refl, refl, refl, refl, refl, refl, refl, refl, refl),
   (refl, refl, refl, refl, refl, refl, refl, refl, refl, refl, refl, refl, refl, refl, refl, refl, refl, refl, refl, refl, refl, refl, refl, refl, refl, refl, refl, refl, refl, refl, refl, refl, refl, refl, refl, refl, refl, refl, refl, refl, refl, refl, refl),

@@ -21,7 +21,7 @@ use Rattle.frames.specs.Frame.{statusByte, readingReply, replyAt, nextRe
 use Rattle.frames.proofs.FrameLaws.{status-fits}
 
 -- a reply of a byte, or of none
-abbrev ByteOrNone : Reply → Type 0
+abbrev pub ByteOrNone : Reply → Type 0
 ByteOrNone (Driven b) = b < 256
 ByteOrNone Off = Unit {0}
 
@@ -48,6 +48,9 @@ module _ (part : ℕ) (w : World) (r : InRange part (w .device)) (z : Shaped par
   byte-at (Over l) = tt
 
   -- what the next whole exchange answers, if anything, is a byte
-  pub reply-byte : (b : ℕ) → nextReply (w .eeprom) (w .id) (w .device) ≡ Driven b → b < 256
+  pub reply-or-none : ByteOrNone (nextReply (w .eeprom) (w .id) (w .device))
   unfolding nextReply
-  reply-byte b e = subst ByteOrNone e (byte-at (w .device .frame .stage))
+  reply-or-none = byte-at (w .device .frame .stage)
+
+  pub reply-byte : (b : ℕ) → nextReply (w .eeprom) (w .id) (w .device) ≡ Driven b → b < 256
+  reply-byte b e = subst ByteOrNone e reply-or-none

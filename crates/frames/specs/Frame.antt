@@ -1,10 +1,11 @@
 -- Select, and a byte of a frame: what is answered, where the frame goes, and what the byte does. The answer of the next whole exchange is one
--- definition, the move of the frame another (D10).
+-- definition, the move of the frame another (D10); the first bits of that answer, where an end breaks the exchange off, are a third.
 -- Assumes nothing.
-use Prim.Native.Nat.{ℕ, _+_, _*_, _^_}
+use Prim.Native.Nat.{ℕ, _+_, _-_, _*_, _/_, _^_}
 use mathlib.Core.Bool.{Bool, not, _&&_}
 use mathlib.Core.List.{List}
 use lib.Bits.{bitOr}
+use lib.Dec.{eqb}
 use lib.ListN.{getD, set}
 use Rattle.base.specs.Words.{pick, flag}
 use Rattle.record.specs.declared.Device.{Device}
@@ -56,6 +57,19 @@ replyAt ee id d (Over l) = Off
 -- A4, W5. what the next whole exchange answers
 unfoldable pub nextReply : List ℕ → List ℕ → Device → Reply
 nextReply ee id d = replyAt ee id d (d .frame .stage)
+
+-- A38. The first k bits of a byte, which leaves SO with its most significant bit first: its k highest, as a number below 2 to the power k.
+abbrev pub topBits : ℕ → ℕ → ℕ
+topBits k b = b / 2 ^ (8 - k)
+
+-- A38. The first k bits of a reply: none if k is 0, and none where SO is off, which is not the number 0 (D151).
+abbrev pub firstBits : ℕ → Reply → Reply
+firstBits k (Driven b) = pick (eqb k 0) Off (Driven (topBits k b))
+firstBits k Off = Off
+
+-- A38. What has come out of SO where k bits of the next exchange are clocked and no more. It moves nothing.
+unfoldable pub leftoverReply : ℕ → List ℕ → List ℕ → Device → Reply
+leftoverReply k ee id d = firstBits k (nextReply ee id d)
 
 -- F31, F32. The instruction byte: while a cycle runs only the five codes are heard.
 abbrev pub firstStage : Bool → Code → Stage

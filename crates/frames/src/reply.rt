@@ -1,4 +1,4 @@
-// What the next whole exchange answers.
+// What the next whole exchange answers, and its first bits.
 use record::Code;
 use record::Device;
 use record::EepromAddress;
@@ -11,7 +11,7 @@ ghost use Prim.Native.Nat.{_<_};
 ghost use lib.ListN.{length, getD};
 ghost use Rattle.base.specs.Words.{flag};
 ghost use Rattle.record.specs.Stages.{framePlace, eepromPointer, idPointer};
-ghost use Rattle.frames.specs.Frame.{statusByte, instructionReply, readingReply, nextReply};
+ghost use Rattle.frames.specs.Frame.{statusByte, instructionReply, readingReply, nextReply, firstBits, leftoverReply};
 
 fn one_if(test: bool) -> u8
     ensures { λ r. ⌜ r ≡ flag test ⌝ }
@@ -84,4 +84,26 @@ pub fn next_reply(eeprom: &[u8], id: &[u8], d: Device) -> Reply
         Stage::Second(_) => Reply::Off,
         Stage::Over(_) => Reply::Off,
     }
+}
+
+// The first k bits of a reply, the most significant first.
+fn first_bits(k: u8, reply: Reply) -> Reply
+    requires { ⌜ k < 8 ⌝ }
+    ensures { λ r. ⌜ r ≡ firstBits k reply ⌝ }
+{
+    let Reply::Driven(b) = reply else {
+        return Reply::Off;
+    };
+    if k == 0 {
+        return Reply::Off;
+    }
+    Reply::Driven(b >> (8 - k))
+}
+
+// What an end with k leftover bits answers.
+pub fn leftover_reply(k: u8, eeprom: &[u8], id: &[u8], d: Device) -> Reply
+    requires { ⌜ (k < 8) × (eepromPointer (framePlace (d .frame .stage)) < length (now eeprom)) × (idPointer (framePlace (d .frame .stage)) < length (now id)) ⌝ }
+    ensures { λ r. ⌜ r ≡ leftoverReply k (now (eeprom .entry)) (now (id .entry)) d ⌝ }
+{
+    first_bits(k, next_reply(eeprom, id, d))
 }

@@ -45,14 +45,16 @@ LinesShown =
     -- T8. an answer's text: a number, none, and the two levels
     × (answerLine 0 (Value 164) true false ≡ bytesOf "no=0 out=164 irq=1 wdo=0\n")
     × (answerLine 7 Z false true ≡ bytesOf "no=7 out=z irq=0 wdo=1\n")
-    -- T8, A6. what it shows: a byte's reply, none where SO is off, a wait's and a cut's count, none where it is refused
+    -- T8, A6, A38. what it shows: a byte's reply, none where SO is off, a wait's and a cut's count, an end's bits, none where it is refused
     × (outOf 0 Byte (Driven 0) 0 ≡ Value 0)
     × (outOf 0 Byte Off 0 ≡ Z)
     × (outOf 0 Wait Off 164 ≡ Value 164)
     × (outOf 0 Cut Off 0 ≡ Value 0)
     × (outOf 0 End Off 0 ≡ Z)
+    × (outOf 0 End (Driven 0) 0 ≡ Value 0)
+    × (outOf 0 End (Driven 82) 0 ≡ Value 82)
     × (outOf 3 Wait Off 0 ≡ Z)
 
 pub lines-shown : LinesShown
 unfolding LinesShown requestOf badLine nameSize digitsText inForm nameOf chosen agreed leading valueFrom answerLine answerChars fieldsText decimalText textWithin
-lines-shown = (refl, refl, refl, refl, refl, refl, refl, refl, refl, refl, refl, refl, refl, refl, refl, refl, refl, refl, refl, refl, refl, refl, refl, refl, refl, refl)
+lines-shown = (refl, refl, refl, refl, refl, refl, refl, refl, refl, refl, refl, refl, refl, refl, refl, refl, refl, refl, refl, refl, refl, refl, refl, refl, refl, refl, refl, refl)

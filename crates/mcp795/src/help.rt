@@ -44,7 +44,8 @@ fn print_acts() -> bool {
                            4 B 2 Kbit; once, before all else
     select  0              CS falls: a frame opens
     byte    0 to 255       eight bits in, eight bits out
-    end     0 to 7         CS rises, after so many bits of a byte not finished
+    end     0 to 7         CS rises, after so many bits of a byte not finished;
+                           what SO had brought of that byte is its reply
     wait    0 to 16777216  so many ticks of 1/32768 s pass, or fewer: it stops
                            after the first that changes IRQ, WDO or WIP
     cut     0 to 255       power fails; of a page being written, the offsets
@@ -63,8 +64,8 @@ Each line gives one answer, written before the program waits for more input:
     no=R out=V irq=L wdo=L
 
     R  0: done; 1 to 7: refused, and nothing has changed
-    V  a byte's reply, the ticks that a wait used, how many bytes a cut stored;
-       z: none
+    V  a byte's reply, the bits of an end's as a number, the ticks that a wait
+       used, how many bytes a cut stored; z: none
     L  the level of the line after the act, 0 or 1
 ",
     )

@@ -165,7 +165,7 @@ pub struct Device {
     pub cycle: Cycle,
 }
 
-// An exchange's answer on SO: a driven byte, or none while SO is off.
+// The answer on SO: what is driven, the byte of an exchange or the bits of one that an end broke off, or none while SO is off.
 pub enum Reply {
     Driven(u8),
     Off,

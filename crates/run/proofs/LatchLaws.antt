@@ -42,7 +42,9 @@ use Rattle.acts.specs.Act.{Outcome, accepted, refusalIn, performed}
 use Rattle.acts.proofs.OutcomeLaws.{by-acceptance, performed-case, changed-by, done-passed, done-as}
 use Rattle.acts.proofs.SuitedLaws.{passed-range, performed-suited}
 use Rattle.run.specs.Claim.{ourChip, worldAfter}
-use Rattle.run.specs.Latch.{welOf, EndsAlone, Resets, cuts, ups, disables, completes, Piece, byte, wait, actsOf, WholeBytes, framed, OnlyWaits, SentAlone, Latch}
+use Rattle.run.specs.Pieces.{Piece, byte, wait, actsOf, WholeBytes, framed}
+use Rattle.run.specs.Latch.{welOf, EndsAlone, Resets, cuts, ups, disables, completes, OnlyWaits, SentAlone, Latch}
+use Rattle.run.proofs.FramedLaws.{InFrame, stageOf, frame-done, byte-moves, wait-moves, still-framed, begun, at-opened}
 
 -- a wait: where a cycle ended in it WEL is clear, else as it was
 module _ (part n : ℕ) (w : World) (r : InRange part (w .device)) where
@@ -163,63 +165,6 @@ module _ (part : ℕ) (act : Act) (arg : ℕ) (w : World) where
     λ p. sym (passed-wel (done-passed part act arg w (p .0))) ∙ set-given part arg w act off (p .1),
   )
 
--- A frame. In it no row of the setup holds, power is on, and the chip is selected.
-record InFrame (part : ℕ) (v : World) : Type 0 where
-  setup : setupRefusal part (v .device) (length (v .eeprom)) (length (v .id)) ≡ 0
-  power : v .device .power ≡ true
-  chosen : selected (v .device .frame .stage) ≡ true
-
-abbrev stageOf : World → Stage
-stageOf v = v .device .frame .stage
-
--- an act of a frame in it is done
-frame-done :
-    (part : ℕ) (act : Act) (arg : ℕ) (v : World) → wrongArg act arg ≡ false → wrongPower act true ≡ false → wrongSelect act true ≡ 0 → InFrame part v
-    → performed part act arg v ≡ accepted part arg v act
-frame-done part act arg v a p s f =
-    by-acceptance part act arg v
-    (table.passed part act arg (v .device) _ _
-    (record {
-      setup = table.setup-passed part (v .device) _ _ (f .setup);
-      arg = a;
-      power = ap (wrongPower act) (f .power) ∙ p;
-      select = ap (wrongSelect act) (f .chosen) ∙ s;
-    }))
-
--- a byte moves the stage, a wait does not, and both leave a frame
-record Moved (part : ℕ) (x : World) (s : Stage) : Type 0 where
-  frame : InFrame part x
-  stage : stageOf x ≡ s
-
-byte-moves :
-    (part b : ℕ) (v : World) → b < 256 → InFrame part v → Moved part (performed part Byte b v .after) (stageAfter (topOf part) (wip (v .device)) b (stageOf v))
-unfolding afterByte
-byte-moves part b v h f =
-    let o : performed part Byte b v ≡ accepted part b v Byte = frame-done part Byte b v (le-ltb 255 b (omega arith)) refl refl f in
-    let m = written-beside (bootsOf part) (v .device) b (stageOf v) in
-    let e = ap (λ (x : Outcome). stageOf (x .after)) o in
-    record {
-      frame =
-          record {
-            setup = performed-suited part Byte b v (f .setup);
-            power = ap (λ (x : Outcome). x .after .device .power) o ∙ m .power ∙ f .power;
-            chosen = ap selected e ∙ stage-selected (topOf part) (wip (v .device)) b (stageOf v) ∙ f .chosen;
-          };
-      stage = e;
-    }
-
-wait-moves : (part n : ℕ) (v : World) → InFrame part v → Moved part (performed part Wait n v .after) (stageOf v)
-wait-moves part n v f =
-    let k =
-    performed-case (λ (x : World). (x .device .power ≡ v .device .power) × (stageOf x ≡ stageOf v)) part Wait n v (refl, refl)
-    (λ e.
-    let s = wait-spent part (bootsOf part) n v (passed-range part Wait n v e) .still in
-    (s .power, ap (λ (x : Frame). x .stage) (s .frame))) in
-    record {
-      frame = record { setup = performed-suited part Wait n v (f .setup); power = k .0 ∙ f .power; chosen = ap selected (k .1) ∙ f .chosen };
-      stage = k .1;
-    }
-
 -- the stage that the pieces of a frame bring, of a code that a second byte moves on and that is not heard in a cycle
 module _ (part : ℕ) (c : Code) (known : isCode c Other ≡ false) (moved : isCode c Srread ≡ false) (deaf : heardUnderWip c ≡ false) where
   abbrev Gone : Stage → Type 0
@@ -280,36 +225,10 @@ module _ (part : ℕ) (c : Code) (known : isCode c Other ≡ false) (moved : isC
       apart p t = true-false (both-true (eq-eqb b (codeNumber c) (p .0)) (ap not (p .1))) t
   alone (wait n ∷ ps) v z f s = let m = wait-moves part n v f in alone ps (performed part Wait n v .after) z (m .frame) (m .stage ∙ s)
 
--- a frame stays one
-still-framed : (part : ℕ) (ps : List Piece) (v : World) → WholeBytes ps → InFrame part v → InFrame part (worldAfter ourChip part (actsOf ps) v)
-unfolding worldAfter ourChip
-still-framed part [] v z f = f
-still-framed part (byte b ∷ ps) v z f = still-framed part ps (performed part Byte b v .after) (z .1) (byte-moves part b v (z .0) f .frame)
-still-framed part (wait n ∷ ps) v z f = still-framed part ps (performed part Wait n v .after) z (wait-moves part n v f .frame)
-
 -- the frame of a select, up to its end
 module _ (part leftover : ℕ) (ps : List Piece) (w : World) (e : performed part Select 0 w .number ≡ 0) (h : leftover < 8) (z : WholeBytes ps) where
   abbrev v : World
   v = performed part Select 0 w .after
-
-  opened : performed part Select 0 w ≡ accepted part 0 w Select
-  opened = done-as part Select 0 w e
-
-  taken : table.Accepted part Select 0 (w .device) (length (w .eeprom)) (length (w .id))
-  taken = table.accepted part Select 0 (w .device) _ _ (done-passed part Select 0 w e)
-
-  begun : InFrame part v
-  unfolding afterSelect
-  begun =
-      record {
-        setup = performed-suited part Select 0 w (table.setup-passes part (w .device) _ _ (taken .setup));
-        power = ap (λ (o : Outcome). o .after .device .power) opened ∙ not-false (w .device .power) (taken .power);
-        chosen = ap (λ (o : Outcome). selected (stageOf (o .after))) opened;
-      }
-
-  at-opened : stageOf v ≡ Opened
-  unfolding afterSelect
-  at-opened = ap (λ (o : Outcome). stageOf (o .after)) opened
 
   -- so a law of the end is one of the frame
   moves :
@@ -317,9 +236,9 @@ module _ (part leftover : ℕ) (ps : List Piece) (w : World) (e : performed part
       → (afterEnd (topOf part) leftover (framed part ps w .device) .guard .wel ≡ b) ↔ ((stageOf (framed part ps w) ≡ Instruction c) × (leftover ≡ 0))
       → (welOf (performed part End leftover (framed part ps w) .after) ≡ b) ↔ (SentAlone part (codeNumber c) ps v × (leftover ≡ 0))
   moves c o s d b l =
-      let a = alone part c o s d ps v z begun at-opened in
+      let a = alone part c o s d ps v z (begun part w e) (at-opened part w e) in
       let q : welOf (performed part End leftover (framed part ps w) .after) ≡ afterEnd (topOf part) leftover (framed part ps w .device) .guard .wel =
-      ap (λ (x : Outcome). welOf (x .after)) (frame-done part End leftover (framed part ps w) (le-ltb 7 leftover (omega arith)) refl refl (still-framed part ps v z begun)) in (
+      ap (λ (x : Outcome). welOf (x .after)) (frame-done part End leftover (framed part ps w) (le-ltb 7 leftover (omega arith)) refl refl (still-framed part ps v z (begun part w e))) in (
         λ y. let p = l .0 (sym q ∙ y) in (a .0 (p .0), p .1),
         λ y. q ∙ l .1 (a .1 (y .0), y .1),
       )

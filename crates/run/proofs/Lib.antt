@@ -15,5 +15,7 @@ pub mod RunLaws
 pub mod TurnLaws
 pub mod ChangeLaws
 pub mod StampLaws
+pub mod FramedLaws
 pub mod LatchLaws
+pub mod LeftoverLaws
 pub mod WrongLaws

@@ -41,8 +41,11 @@ reached-agrees :
     → Agree (freshWorld part) part (reached part xs) (ledgerRun part (stepsOf ourChip part xs (freshWorld part)) start)
 reached-agrees part p xs = run-agrees (freshWorld part) part p xs (freshWorld part) start (fresh-agrees part)
 
+pub reached-valid : (part : ℕ) → isPart part ≡ true → (xs : List Input) → Valid part (reached part xs)
+reached-valid part p xs = reached-agrees part p xs .valid
+
 pub reached-in-range : (part : ℕ) → isPart part ≡ true → (xs : List Input) → InRange part (reached part xs .device)
-reached-in-range part p xs = reached-agrees part p xs .valid .range
+reached-in-range part p xs = reached-valid part p xs .range
 
 not-answered :
     (part : ℕ) → isPart part ≡ true → (xs : List Input) (act : Act) (n k : ℕ) → (eqb k 0 || eqb k 1 || eqb k 2 || eqb k 3 || eqb k 5) ≡ false

@@ -6,15 +6,14 @@ use mathlib.Core.Bool.{Bool, true, false}
 use mathlib.Core.Logic.{_↔_}
 use mathlib.Core.List.{List, [], _∷_}
 use Rattle.record.specs.declared.Act.{Act}
-use Rattle.record.specs.declared.Act.the-variants.{Select, Byte, End, Wait, Cut, Up}
+use Rattle.record.specs.declared.Act.the-variants.{Select, End, Wait, Cut, Up}
 use Rattle.record.specs.declared.Code.{Code}
 use Rattle.record.specs.declared.Code.the-variants.{Eewrdi, Eewren}
 use Rattle.record.specs.declared.Device.{Device}
 use Rattle.record.specs.declared.Stage.the-variants.{Instruction}
 use Rattle.record.specs.World.{World}
 use Rattle.acts.specs.Act.{performed}
-use Rattle.run.specs.Claim.{Input, ourChip, worldAfter}
-use Rattle.run.specs.Script.{does}
+use Rattle.run.specs.Pieces.{Piece, byte, wait, WholeBytes, framed}
 
 -- WEL of a chip with its memories
 abbrev pub welOf : World → Bool
@@ -35,26 +34,6 @@ pub data Resets (act : Act) (arg used : ℕ) (d : Device) : Type 0 where
   disables : EndsAlone Eewrdi act arg d → Resets act arg used d
   -- F28. a wait that used all the ticks that a cycle had left
   completes : act ≡ Wait → 0 < d .cycle .left → used ≡ d .cycle .left → Resets act arg used d
-
--- what comes in a frame: bytes, and waits between them
-pub data Piece : Type 0 where
-  byte : ℕ → Piece
-  wait : ℕ → Piece
-
-abbrev pub actsOf : List Piece → List Input
-actsOf [] = []
-actsOf (byte b ∷ ps) = does Byte b ∷ actsOf ps
-actsOf (wait n ∷ ps) = does Wait n ∷ actsOf ps
-
--- every byte is one; a wait may ask for any number
-abbrev pub WholeBytes : List Piece → Type 0
-WholeBytes [] = Unit {0}
-WholeBytes (byte b ∷ ps) = (b < 256) × WholeBytes ps
-WholeBytes (wait n ∷ ps) = WholeBytes ps
-
--- the chip before the end of a frame
-abbrev pub framed : ℕ → List Piece → World → World
-framed part ps w = worldAfter ourChip part (actsOf ps) (performed part Select 0 w .after)
 
 -- no byte came
 abbrev pub OnlyWaits : List Piece → Type 0

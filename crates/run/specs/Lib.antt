@@ -4,4 +4,6 @@ pub mod Script
 pub mod Wrong
 pub mod Changes
 pub mod Stamps
+pub mod Pieces
 pub mod Latch
+pub mod Leftover
