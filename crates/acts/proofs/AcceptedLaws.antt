@@ -30,6 +30,10 @@ accepted-byte part n d ee id e = byte-arg 255 n (lit< tt) (accepted part Byte n 
 pub accepted-end : (part n : ℕ) (d : Device) (ee id : ℕ) → refusalOf part End n d ee id ≡ 0 → n % 256 ≡ n
 accepted-end part n d ee id e = byte-arg 7 n (lit< tt) (accepted part End n d ee id e .arg)
 
+-- an end has at most 7 leftover bits
+pub few-bits : (part n : ℕ) (d : Device) (ee id : ℕ) → refusalOf part End n d ee id ≡ 0 → n < 8
+few-bits part n d ee id e = omega (arith, ltb-false 7 n (accepted part End n d ee id e .arg))
+
 pub accepted-cut : (part n : ℕ) (d : Device) (ee id : ℕ) → refusalOf part Cut n d ee id ≡ 0 → n % 256 ≡ n
 accepted-cut part n d ee id e = byte-arg 255 n (lit< tt) (accepted part Cut n d ee id e .arg)
 

@@ -3,7 +3,7 @@
 use Prim.Native.Nat.{ℕ, _<_}
 use native.Mathlib.Omega.{arith}
 use mathlib.Core.Path.{_≡_}
-use borrow.Author.Tests.{ltb-false, le-ltb}
+use borrow.Author.Tests.{le-ltb}
 use Rattle.record.specs.declared.Act.the-variants.{Byte, End}
 use Rattle.record.specs.World.{World}
 use Rattle.refusals.proofs.TableLaws as table
@@ -19,10 +19,6 @@ pub byte-passes : (part k v : ℕ) (w : World) → v < 256 → refusalIn part En
 byte-passes part k v w h e =
     let a = table.accepted part End k (w .device) _ _ e in
     table.passed part Byte v (w .device) _ _ (record { setup = a .setup; arg = le-ltb 255 v (omega arith); power = a .power; select = a .select })
-
--- it has at most 7 leftover bits,
-pub few-bits : (part k : ℕ) (w : World) → refusalIn part End k w ≡ 0 → k < 8
-few-bits part k w e = omega (arith, ltb-false 7 k (table.accepted part End k (w .device) _ _ e .arg))
 
 -- and answers the first of those of the byte
 pub end-broken-off : (part k v : ℕ) (w : World) → Valid part w → k < 8 → BrokenOff k (accepted part v w Byte .reply) (accepted part k w End .reply)

@@ -25,7 +25,8 @@ use Rattle.frames.specs.Leftover.{BrokenOff}
 use Rattle.frames.proofs.AloneLaws.{stage-past, first-begun}
 use Rattle.frames.proofs.LeftoverLaws.{isDriven, off-undriven, first-none, driving, next-driven, drivingOn, goes-on, first-drives, first-goes-on}
 use Rattle.acts.specs.Act.{Outcome, accepted, refusalIn, performed}
-use Rattle.acts.proofs.LeftoverLaws.{byte-passes, few-bits, end-broken-off}
+use Rattle.acts.proofs.AcceptedLaws.{few-bits}
+use Rattle.acts.proofs.LeftoverLaws.{byte-passes, end-broken-off}
 use Rattle.acts.proofs.OutcomeLaws.{by-acceptance, done-passed, done-as, refused-same}
 use Rattle.acts.proofs.SuitedLaws.{passed-range}
 use Rattle.run.specs.Claim.{ourChip, worldAfter}
@@ -47,7 +48,7 @@ module _ (part k v : ℕ) (w : World) (h : v < 256) (e : performed part End k w 
 
   agreed : Shaped part w → Agrees part k v w
   agreed z =
-      let b = end-broken-off part k v w (record { range = passed-range part End k w passed; shaped = z }) (few-bits part k w passed) in (
+      let b = end-broken-off part k v w (record { range = passed-range part End k w passed; shaped = z }) (few-bits part k (w .device) _ _ passed) in (
         ap (λ (o : Outcome). o .number) as-byte,
         subst (λ (o : Outcome). BrokenOff k (o .reply) (performed part End k w .reply)) (sym as-byte)
         (subst (λ (o : Outcome). BrokenOff k (accepted part v w Byte .reply) (o .reply)) (sym as-end) b),

@@ -12,6 +12,7 @@ use Rattle.record.specs.Part.{isPart}
 use Rattle.refusals.specs.InRange.{InRange}
 use Rattle.record.specs.World.{World, freshWorld}
 use Rattle.acts.specs.Act.{performed}
+use Rattle.acts.proofs.ValidLaws.{Valid}
 use Rattle.acts.proofs.OutcomeLaws.{answered-by-table}
 use Rattle.ledger.specs.State.{Step, start}
 use Rattle.ledger.specs.Steps.{ledgerRun}
