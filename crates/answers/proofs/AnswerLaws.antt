@@ -66,9 +66,9 @@ seven-asked line s (ActLine act arg) e = (
 seven-asked line s Bad e = (λ k. bad (bad-line line .0 e), λ q. refl)
 
 -- what is shown of an act without a count: its reply, where it is done, and none, which is a refused act's reply too
-outcome-shown : (part : ℕ) (act : Act) (arg : ℕ) (s : Setup) → showsCount act ≡ false
+reply-shown : (part : ℕ) (act : Act) (arg : ℕ) (s : Setup) → showsCount act ≡ false
     → outcomeAnswer part act (performed part act arg (s .chip)) .out ≡ replyOut (performed part act arg (s .chip) .reply)
-outcome-shown part act arg s c =
+reply-shown part act arg s c =
     by-cases (eqb (performed part act arg (s .chip) .number) 0)
     (λ t. sym (yes _ Z t) ∙ sym (no _ _ c))
     (λ t. sym (no _ Z t) ∙ ap replyOut (sym (ap (λ (o : Outcome). o .reply) (refused-same part act arg (s .chip) t))))
@@ -78,7 +78,7 @@ unfolding RepliesShown lineAnswer
 replies-shown line act arg s e f c =
     ap (λ (r : Request). requestAnswer r s .out) e
     ∙ ap (λ (a : LineAnswer). a .out) (sym (no (refusedLine 7 s) _ f))
-    ∙ outcome-shown (s .part) act arg s c
+    ∙ reply-shown (s .part) act arg s c
 
 -- number 7 is given exactly when the line is bad, or is an act's before a part, or a part's after one
 pub seven-exactly : (line : List ℕ) (s : Setup) → (lineAnswer line s .number ≡ 7) ↔ SevenRow line s

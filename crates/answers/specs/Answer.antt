@@ -82,7 +82,7 @@ pub data SevenRow (line : List ℕ) (s : Setup) : Type 0 where
 
 -- T8, A4, A38. What a line shows of an act that has no count, once there is a part: its reply, a byte's or the bits of an end, z for none; said apart
 -- from the choices above.
-pub RepliesShown : Type 0
+unfoldable pub RepliesShown : Type 0
 RepliesShown =
     (line : List ℕ) (act : Act) (arg : ℕ) (s : Setup) → requestOf line ≡ ActLine act arg → noPart s ≡ false → showsCount act ≡ false
     → lineAnswer line s .out ≡ replyOut (performed (s .part) act arg (s .chip) .reply)

@@ -6,13 +6,14 @@ use Rattle.base.specs.Words.{every, storeUnder}
 use Rattle.record.specs.Fresh.{fresh}
 use Rattle.refusals.specs.Range.{outOfRange, clockOut, frameOut, cycleOut, powerOut, bitOutside}
 use Rattle.refusals.specs.Refusal.{refusalOf}
+use Rattle.registers.specs.Read.{readClock}
 use Rattle.registers.specs.Write.{afterWrite, writeClock}
 use Rattle.ticks.specs.Lines.{irqLow, wdoLow, changed}
 use Rattle.ticks.specs.Oscillator.{oscillatorTick}
 use Rattle.ticks.specs.Watchdog.{watchdogTick}
 use Rattle.ticks.specs.Clock.{calendarTick}
 use Rattle.ticks.specs.Tick.{cycleDevice, cycleTick, clockwork, tick}
-use Rattle.frames.specs.Frame.{nextReply, afterByte, afterSelect}
+use Rattle.frames.specs.Frame.{nextReply, leftoverReply, afterByte, afterSelect}
 use Rattle.ends.specs.End.{afterEnd}
 use Rattle.ends.specs.Write.{carried, cycleAfter, welAfter}
 use Rattle.acts.specs.Act.{performed}
@@ -26,5 +27,5 @@ use Rattle.tape.specs.Tape.{linesFrom, answersTo, tapeAnswers}
 use Rattle.feeding.specs.WholeCase.{WholeCase}
 
 pub whole-case : WholeCase
-unfolding WholeCase tapeAnswers linesFrom answersTo lineAnswer answerText fieldsText answerChars answerLine badLine requestOf nameSize digitsText inForm nameOf chosen agreed leading valueFrom textWithin decimalText performed refusalOf outOfRange clockOut frameOut cycleOut powerOut bitOutside every fresh afterSelect afterByte nextReply afterWrite writeClock afterEnd carried cycleAfter welAfter waitedBy tick cycleTick cycleDevice clockwork changed irqLow wdoLow oscillatorTick watchdogTick calendarTick storeUnder
-whole-case = (refl, refl, refl, refl)
+unfolding WholeCase tapeAnswers linesFrom answersTo lineAnswer answerText fieldsText answerChars answerLine badLine requestOf nameSize digitsText inForm nameOf chosen agreed leading valueFrom textWithin decimalText performed refusalOf outOfRange clockOut frameOut cycleOut powerOut bitOutside every fresh afterSelect afterByte nextReply leftoverReply readClock afterWrite writeClock afterEnd carried cycleAfter welAfter waitedBy tick cycleTick cycleDevice clockwork changed irqLow wdoLow oscillatorTick watchdogTick calendarTick storeUnder
+whole-case = (refl, refl, refl, refl, refl)

@@ -1,4 +1,4 @@
--- The whole case as text, what comes before a part, and the two levels at work: the bytes of a tape, and the bytes of its answers. It is one closed
+-- The whole case as text, what comes before a part, the two levels at work and frames that are broken off: the bytes of a tape, and the bytes of its answers. It is one closed
 -- statement about `tapeAnswers`, so about what `feed` and `finish` put into a buffer; not about any other tape.
 -- Assumes nothing.
 use Prim.Native.Nat.{ℕ}
@@ -68,6 +68,35 @@ levelCase =
     ∷ ("op=end arg=0", "no=0 out=z irq=1 wdo=1")
     ∷ []
 
+-- T8, A38. WRITE of A5h, 1010 0101, at 20h; then frames that are broken off: READ of it after five bits, READ at 60h, where SO drives 0, and a READ
+-- without its address, where SO is off. An end with eight leftover bits is refused, with none no bits are shown, and without a frame it is refused.
+abbrev pub brokenCase : List (String × String)
+brokenCase =
+    ("op=part arg=2", "no=0 out=z irq=1 wdo=1")
+    ∷ ("op=select arg=0", "no=0 out=z irq=1 wdo=1")
+    ∷ ("op=byte arg=18", "no=0 out=z irq=1 wdo=1")
+    ∷ ("op=byte arg=32", "no=0 out=z irq=1 wdo=1")
+    ∷ ("op=byte arg=165", "no=0 out=z irq=1 wdo=1")
+    ∷ ("op=end arg=0", "no=0 out=z irq=1 wdo=1")
+    ∷ ("op=select arg=0", "no=0 out=z irq=1 wdo=1")
+    ∷ ("op=byte arg=19", "no=0 out=z irq=1 wdo=1")
+    ∷ ("op=byte arg=32", "no=0 out=z irq=1 wdo=1")
+    ∷ ("op=end arg=5", "no=0 out=20 irq=1 wdo=1")
+    ∷ ("op=select arg=0", "no=0 out=z irq=1 wdo=1")
+    ∷ ("op=byte arg=19", "no=0 out=z irq=1 wdo=1")
+    ∷ ("op=byte arg=96", "no=0 out=z irq=1 wdo=1")
+    ∷ ("op=end arg=7", "no=0 out=0 irq=1 wdo=1")
+    ∷ ("op=select arg=0", "no=0 out=z irq=1 wdo=1")
+    ∷ ("op=byte arg=19", "no=0 out=z irq=1 wdo=1")
+    ∷ ("op=end arg=5", "no=0 out=z irq=1 wdo=1")
+    ∷ ("op=select arg=0", "no=0 out=z irq=1 wdo=1")
+    ∷ ("op=byte arg=19", "no=0 out=z irq=1 wdo=1")
+    ∷ ("op=byte arg=32", "no=0 out=z irq=1 wdo=1")
+    ∷ ("op=end arg=8", "no=3 out=z irq=1 wdo=1")
+    ∷ ("op=end arg=0", "no=0 out=z irq=1 wdo=1")
+    ∷ ("op=end arg=5", "no=2 out=z irq=1 wdo=1")
+    ∷ []
+
 -- T6. the third part; the tapes above have the others
 abbrev pub thirdPart : List (String × String)
 thirdPart = ("op=part arg=3", "no=0 out=z irq=1 wdo=1") ∷ []
@@ -86,4 +115,4 @@ abbrev pub AnsweredAs : List (String × String) → Type 0
 AnsweredAs rows = tapeAnswers (tapeOf rows) ≡ answersOf rows
 
 unfoldable pub WholeCase : Type 0
-WholeCase = AnsweredAs wholeCase × AnsweredAs partCase × AnsweredAs levelCase × AnsweredAs thirdPart
+WholeCase = AnsweredAs wholeCase × AnsweredAs partCase × AnsweredAs levelCase × AnsweredAs brokenCase × AnsweredAs thirdPart

@@ -51,7 +51,7 @@ module _ (part k v : ℕ) (w : World) (h : v < 256) (e : performed part End k w 
       let b = end-broken-off part k v w (record { range = passed-range part End k w passed; shaped = z }) (few-bits part k (w .device) _ _ passed) in (
         ap (λ (o : Outcome). o .number) as-byte,
         subst (λ (o : Outcome). BrokenOff k (o .reply) (performed part End k w .reply)) (sym as-byte)
-        (subst (λ (o : Outcome). BrokenOff k (accepted part v w Byte .reply) (o .reply)) (sym as-end) b),
+            (subst (λ (o : Outcome). BrokenOff k (accepted part v w Byte .reply) (o .reply)) (sym as-end) b),
       )
 
   none-by : (performed part End k w .reply ≡ Off) ↔ ((k ≡ 0) ⊎ (performed part Byte v w .reply ≡ Off))
