@@ -425,9 +425,30 @@ pub fn next_clock_address(address: u8) -> u8 {
 // ---------------------------------------------------------------------------------------------
 // Frames
 
+/// 01 Frames: what a whole byte is answered if it comes now, whichever it is; none while SO is off.
+/// SO is driven right after the code of SRREAD, and after the address of the other reads. Moves
+/// nothing.
+fn next_reply(device: &Device, eeprom: &[u8], id: &[u8]) -> Option<u8> {
+    let Frame::Heard { code, bytes, .. } = device.frame else { return None };
+    let after_the_address = bytes != Bytes::One;
+    match code {
+        SRREAD => Some(device.status()),
+        EEREAD if after_the_address => Some(eeprom[device.eeprom_pointer as usize]),
+        IDREAD if after_the_address => Some(id[device.id_pointer as usize]),
+        READ if after_the_address => Some(read_clock(device, device.clock_pointer)),
+        _ => None,
+    }
+}
+
 fn byte(part: u64, device: &mut Device, byte: u8, eeprom: &[u8], id: &[u8]) -> Option<u8> {
+    let reply = next_reply(device, eeprom, id);
+    take_byte(part, device, byte);
+    reply
+}
+
+fn take_byte(part: u64, device: &mut Device, byte: u8) {
     match device.frame {
-        Frame::Idle | Frame::Unheard => None,
+        Frame::Idle | Frame::Unheard => {}
         Frame::Empty => {
             let heard = !device.wip() || heard_under_wip(byte);
             device.frame = if heard {
@@ -435,7 +456,6 @@ fn byte(part: u64, device: &mut Device, byte: u8, eeprom: &[u8], id: &[u8]) -> O
             } else {
                 Frame::Unheard
             };
-            None
         }
         Frame::Heard { code, bytes: Bytes::One, .. } => {
             let second = match code {
@@ -443,16 +463,16 @@ fn byte(part: u64, device: &mut Device, byte: u8, eeprom: &[u8], id: &[u8]) -> O
                 _ => 0,
             };
             device.frame = Frame::Heard { code, bytes: Bytes::Two, second };
-            second_byte(part, device, code, byte)
+            second_byte(part, device, code, byte);
         }
         Frame::Heard { code, second, .. } => {
             device.frame = Frame::Heard { code, bytes: Bytes::More, second };
-            data_byte(part, device, code, byte, eeprom, id)
+            data_byte(part, device, code, byte);
         }
     }
 }
 
-fn second_byte(part: u64, device: &mut Device, code: u8, byte: u8) -> Option<u8> {
+fn second_byte(part: u64, device: &mut Device, code: u8, byte: u8) {
     match code {
         EEREAD | EEWRITE => {
             // 01 Frames: with 1 Kbit, bit 7 of the address does not count.
@@ -467,53 +487,45 @@ fn second_byte(part: u64, device: &mut Device, code: u8, byte: u8) -> Option<u8>
             device.loaded = [None; 8];
         }
         READ | WRITE => device.clock_pointer = byte,
-        SRREAD => return Some(device.status()),
         _ => {}
     }
-    None
 }
 
-fn data_byte(
-    part: u64,
-    device: &mut Device,
-    code: u8,
-    byte: u8,
-    eeprom: &[u8],
-    id: &[u8],
-) -> Option<u8> {
+fn data_byte(part: u64, device: &mut Device, code: u8, byte: u8) {
     match code {
-        EEREAD => {
-            let reply = eeprom[device.eeprom_pointer as usize];
-            device.eeprom_pointer = (device.eeprom_pointer + 1) % eeprom_length(part) as u64;
-            Some(reply)
-        }
-        IDREAD => {
-            let reply = id[device.id_pointer as usize];
-            device.id_pointer = (device.id_pointer + 1) % 16;
-            Some(reply)
-        }
-        READ => {
-            let reply = read_clock(device, device.clock_pointer);
-            device.clock_pointer = next_clock_address(device.clock_pointer);
-            Some(reply)
-        }
-        SRREAD => Some(device.status()),
+        EEREAD => device.eeprom_pointer = (device.eeprom_pointer + 1) % eeprom_length(part) as u64,
+        IDREAD => device.id_pointer = (device.id_pointer + 1) % 16,
+        READ => device.clock_pointer = next_clock_address(device.clock_pointer),
         WRITE => {
             write_clock(part, device, device.clock_pointer, byte);
             device.clock_pointer = next_clock_address(device.clock_pointer);
-            None
         }
         EEWRITE | IDWRITE => {
             // 01 Frames: offset 0 comes after offset 7, and the newest byte of an offset stands.
             device.loaded[device.offset as usize] = Some(byte);
             device.offset = (device.offset + 1) % 8;
-            None
         }
-        _ => None,
+        _ => {}
     }
 }
 
-fn end(part: u64, device: &mut Device, leftover: u64) {
+/// 02 Bits, 000 3.0: the bits that left SO since the last whole byte, as a number. A byte leaves
+/// with bit 7 first, so they are its upper ones.
+fn bits_out(reply: Option<u8>, leftover: u64) -> Option<u8> {
+    match leftover {
+        0 => None,
+        _ => reply.map(|byte| byte >> (8 - leftover)),
+    }
+}
+
+/// Gives the bits that were out when CS rose, before the end does anything.
+fn end(part: u64, device: &mut Device, leftover: u64, eeprom: &[u8], id: &[u8]) -> Option<u8> {
+    let bits = bits_out(next_reply(device, eeprom, id), leftover);
+    close_frame(part, device, leftover);
+    bits
+}
+
+fn close_frame(part: u64, device: &mut Device, leftover: u64) {
     if let Frame::Heard { code, bytes, second } = device.frame {
         let whole = leftover == 0;
         match code {
@@ -771,7 +783,8 @@ fn stamp(device: &mut Device, first: usize) {
 // ---------------------------------------------------------------------------------------------
 // Acts
 
-/// `count` is a wait's ticks used or a cut's stored bytes, else 0.
+/// `reply` is what SO gave: a byte, or the bits of an end. `count` is a wait's ticks used or a cut's
+/// stored bytes, else 0.
 #[derive(Clone, Copy, Debug, PartialEq, Eq)]
 pub struct Answer {
     pub number: u64,
@@ -796,7 +809,7 @@ pub fn perform(
     match act {
         Act::Select => device.frame = Frame::Empty,
         Act::Byte => answer.reply = byte(part, device, number as u8, eeprom, id),
-        Act::End => end(part, device, number),
+        Act::End => answer.reply = end(part, device, number, eeprom, id),
         Act::Wait => answer.count = wait(part, device, number, eeprom, id),
         Act::Cut => answer.count = cut(device, number as u8, eeprom, id),
         Act::Up => up(device),

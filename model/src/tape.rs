@@ -130,7 +130,7 @@ impl Tape {
     }
 }
 
-/// 01 Tape: a wait shows its ticks, a cut its count, any other act its reply; none is z.
+/// 01 Tape, 02 Bits: a wait shows its ticks, a cut its count, any other act its reply; none is z.
 fn shown(act: Act, answer: Answer) -> Option<u64> {
     match act {
         _ if answer.number != 0 => None,

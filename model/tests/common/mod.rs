@@ -50,8 +50,11 @@ impl Rig {
         self.done(Act::Byte, byte.into()).reply
     }
 
-    pub fn end(&mut self, leftover: u64) {
-        assert_eq!(self.done(Act::End, leftover).reply, None);
+    /// Gives the bits that it answers: with no bits over, none.
+    pub fn end(&mut self, leftover: u64) -> Option<u8> {
+        let bits = self.done(Act::End, leftover).reply;
+        assert!(leftover > 0 || bits.is_none());
+        bits
     }
 
     pub fn wait(&mut self, ticks: u64) -> u64 {
