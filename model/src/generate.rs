@@ -1,7 +1,8 @@
 //! Random tapes that reach deep states: whole scenes (an unlock and an ID write, a time about to
 //! carry into an alarm, a cut in the middle of a cycle), disturbed now and then by a wait, a bad
-//! line, a refused act, a missing line or a cut. There are three kinds, with scenes of their own.
+//! line, a refused act, a missing line or a cut. There are four kinds, with scenes of their own.
 
+mod bits;
 mod latch;
 mod power;
 
@@ -69,6 +70,12 @@ pub fn power_tape(seed: u64, lines: u64) -> Vec<u8> {
 /// `seed % 4` chooses the part.
 pub fn latch_tape(seed: u64, lines: u64) -> Vec<u8> {
     of_scenes(seed, lines, Writer::latch_scene)
+}
+
+/// A tape for the bits of an end: reads in which CS rises in the middle of a byte. `seed % 4`
+/// chooses the part.
+pub fn bits_tape(seed: u64, lines: u64) -> Vec<u8> {
+    of_scenes(seed, lines, Writer::bits_scene)
 }
 
 fn of_scenes(seed: u64, lines: u64, scene: fn(&mut Writer)) -> Vec<u8> {

@@ -1,7 +1,8 @@
 //! `model` answers the tape on standard input, `model FILE...` each file in turn, each starting
 //! without a part. `model --generate SEED LINES` writes a random tape, and so do `model
-//! --generate-power SEED LINES`, one whose power fails often, and `model --generate-latch SEED
-//! LINES`, one with writes that come to nothing.
+//! --generate-power SEED LINES`, one whose power fails often, `model --generate-latch SEED LINES`,
+//! one with writes that come to nothing, and `model --generate-bits SEED LINES`, one with reads
+//! that CS breaks off in the middle of a byte.
 
 use std::ffi::OsString;
 use std::fs::File;
@@ -14,10 +15,11 @@ use model::tape::Tape;
 /// Makes a tape of seed and lines.
 type Generator = fn(u64, u64) -> Vec<u8>;
 
-const GENERATORS: [(&str, Generator); 3] = [
+const GENERATORS: [(&str, Generator); 4] = [
     ("--generate", generate::tape),
     ("--generate-power", generate::power_tape),
     ("--generate-latch", generate::latch_tape),
+    ("--generate-bits", generate::bits_tape),
 ];
 
 /// Answers all lines that have arrived before it reads on.

@@ -137,6 +137,18 @@ fn acts_with_many_failed_writes() {
 }
 
 #[test]
+fn acts_with_many_half_bytes() {
+    let (mut acts, mut entries) = (0, 0);
+    for seed in 0..100 {
+        let (a, e) = run(seed, &generate::bits_tape(seed, 1_000));
+        acts += a;
+        entries += e;
+    }
+    assert!(acts > 90_000, "{acts} acts");
+    assert!(entries > 2_000, "{entries} entries");
+}
+
+#[test]
 fn the_whole_case_by_the_ledger() {
     // 01 Promise: the byte that a chip without any effect would not have.
     let mut ledger = Ledger::new(2);

@@ -1,19 +1,21 @@
-//! The random tapes: the same for a seed, as long as asked for, and what power and latch tapes
-//! reach.
+//! The random tapes: the same for a seed, as long as asked for, and what power, latch and bits
+//! tapes reach.
 
 mod common;
 use std::collections::BTreeMap;
+use std::fmt::Debug;
 
 use common::*;
-use model::calendar::from_bcd;
-use model::chip::{Bytes, Device, Frame};
-use model::generate::{latch_tape, power_tape, tape};
+use model::calendar::{from_bcd, leap};
+use model::chip::{Bytes, Device, Frame, Lock, Protection};
+use model::generate::{bits_tape, latch_tape, power_tape, tape};
 use model::tape::{answers, parse, Op};
 use model::Act;
 
 #[test]
 fn seeds_and_lines() {
-    for made in [tape, power_tape, latch_tape] {
+    let kinds = [tape, power_tape, latch_tape, bits_tape];
+    for made in kinds {
         for seed in 0..8 {
             let tape = made(seed, 1_000);
             assert_eq!(tape, made(seed, 1_000));
@@ -22,9 +24,11 @@ fn seeds_and_lines() {
         assert!(made(0, 0).is_empty());
         assert_ne!(made(0, 50), made(4, 50));
     }
-    assert_ne!(tape(0, 50), power_tape(0, 50));
-    assert_ne!(tape(0, 50), latch_tape(0, 50));
-    assert_ne!(power_tape(0, 50), latch_tape(0, 50));
+    for (place, kind) in kinds.iter().enumerate() {
+        for other in &kinds[..place] {
+            assert_ne!(kind(0, 50), other(0, 50));
+        }
+    }
 }
 
 #[test]
@@ -37,6 +41,7 @@ fn tapes_that_are_kept() {
         ("mixed_power", power_tape(2, 3_000)),
         ("mixed", tape(1, 30_000)),
         ("mixed_latch", latch_tape(4, 3_000)),
+        ("mixed_bits", bits_tape(307, 3_000)),
     ] {
         let folder = concat!(env!("CARGO_MANIFEST_DIR"), "/../crates/mcp795/data");
         let kept = std::fs::read(format!("{folder}/{name}.tape")).unwrap();
@@ -46,10 +51,10 @@ fn tapes_that_are_kept() {
 
 /// What the acts of tapes met, by name and how often.
 #[derive(Default)]
-struct Met(BTreeMap<&'static str, u64>);
+struct Met<Name = &'static str>(BTreeMap<Name, u64>);
 
-impl Met {
-    fn count(&mut self, name: &'static str, met: bool) {
+impl<Name: Ord + Debug> Met<Name> {
+    fn count(&mut self, name: Name, met: bool) {
         *self.0.entry(name).or_default() += u64::from(met);
     }
 
@@ -58,7 +63,9 @@ impl Met {
         let seldom: Vec<_> = self.0.iter().filter(|&(_, &count)| count < 10).collect();
         assert!(seldom.is_empty(), "{seldom:?} of {:#?}", self.0);
     }
+}
 
+impl Met {
     fn cut(&mut self, before: &Device) {
         let r = &before.registers;
         let (vbat, vbaten) = (r[4] & 0x10 != 0, r[4] & 0x08 != 0);
@@ -237,4 +244,161 @@ fn what_latch_tapes_reach() {
     latch.carried.often();
     latch.carried_after_a_look.often();
     latch.others.often();
+}
+
+/// Where the next byte of a frame comes from, if one comes.
+fn source(d: &Device) -> Option<&'static str> {
+    let Frame::Heard { code, bytes, .. } = d.frame else { return None };
+    match (code, bytes, d.clock_pointer) {
+        (0x05, _, _) => Some("STATUS"),
+        (_, Bytes::One, _) => None,
+        (0x03, _, _) => Some("EEPROM"),
+        (0x33, _, _) => Some("ID"),
+        (0x13, _, 0x00..=0x1F) => Some("a register"),
+        (0x13, _, 0x20..=0x5F) => Some("SRAM"),
+        (0x13, _, _) => Some("60h or above"),
+        _ => None,
+    }
+}
+
+const SOURCES: [&str; 6] = ["EEPROM", "ID", "a register", "SRAM", "60h or above", "STATUS"];
+
+/// Ends with bits over, and what they met.
+#[derive(Default)]
+struct HalfBytes {
+    /// By the source and how many bits.
+    answered: Met<(&'static str, u64)>,
+    /// Those bits that are neither all 0 nor all 1.
+    mixed: Met<(&'static str, u64)>,
+    others: Met,
+    /// What the next byte would have been when the last one had come.
+    next: Option<u8>,
+}
+
+impl HalfBytes {
+    fn new() -> HalfBytes {
+        let mut half_bytes = HalfBytes::default();
+        for source in SOURCES {
+            for leftover in 1..=7 {
+                half_bytes.answered.count((source, leftover), false);
+                if leftover > 1 && source != "STATUS" && source != "60h or above" {
+                    half_bytes.mixed.count((source, leftover), false);
+                }
+            }
+        }
+        half_bytes
+    }
+
+    /// An end with bits over that answers them.
+    fn bits(&mut self, source: &'static str, leftover: u64, bits: u8, before: &Rig) {
+        let ones = bits.count_ones();
+        self.answered.count((source, leftover), true);
+        if ones > 0 && u64::from(ones) < leftover {
+            self.mixed.count((source, leftover), true);
+        }
+        self.rolled_over(source, before);
+        match source {
+            "STATUS" => self.status(leftover, &before.device),
+            "a register" => self.register(&before.device),
+            _ => {}
+        }
+        let (d, status) = (&before.device, source == "STATUS");
+        self.others.count("READ in a cycle", !status && d.countdown > 0);
+        self.others.count("a lock that is closed", !status && d.lock == Lock::Open);
+        self.others.count("a lock that stays open", status && d.lock == Lock::Open);
+        let changed = self.next.map(|byte| byte >> (8 - leftover)) != Some(bits);
+        self.others.count("bits that changed in the frame", changed);
+    }
+
+    fn rolled_over(&mut self, source: &str, before: &Rig) {
+        let d = &before.device;
+        let later = matches!(d.frame, Frame::Heard { bytes: Bytes::More, .. });
+        let small = before.eeprom.len() == 128;
+        let eeprom = source == "EEPROM" && later && d.eeprom_pointer == 0;
+        self.others.count("EEPROM 00h after 7Fh", eeprom && small);
+        self.others.count("EEPROM 00h after FFh", eeprom && !small);
+        self.others.count("ID 00h after 0Fh", source == "ID" && later && d.id_pointer == 0);
+        let clock = |first| later && d.clock_pointer == first;
+        self.others.count("00h after 1Fh", source == "a register" && clock(0x00));
+        self.others.count("20h after 5Fh", source == "SRAM" && clock(0x20));
+    }
+
+    fn status(&mut self, leftover: u64, d: &Device) {
+        let bp = d.protection != Protection::Nothing;
+        self.others.count("WIP", d.countdown > 0);
+        self.others.count("WEL", d.wel && leftover == 7);
+        self.others.count("BP", bp && leftover >= 5);
+    }
+
+    fn register(&mut self, d: &Device) {
+        let (address, r) = (usize::from(d.clock_pointer), &d.registers);
+        self.others.count("OSCON", address == 0x04 && d.start_up == 32);
+        self.others.count("LP", address == 0x06 && leap(r[7]));
+        let alarm_hours = [0x0E, 0x15].contains(&address);
+        self.others.count("12/24 of an alarm", alarm_hours && r[3] & 0x40 != 0);
+        self.others.count("a time-stamp", address >= 0x18 && r[address] != 0);
+    }
+
+    /// An end with bits over that answers none.
+    fn none(&mut self, before: &Device) {
+        let heard = |codes: &[u8]| match before.frame {
+            Frame::Heard { code, .. } => codes.contains(&code),
+            _ => false,
+        };
+        self.others.count("no byte", before.frame == Frame::Empty);
+        self.others.count("EEREAD without its address", heard(&[0x03]));
+        self.others.count("READ without its address", heard(&[0x13]));
+        self.others.count("IDREAD without its address", heard(&[0x33]));
+        self.others.count("EEWRITE", heard(&[0x02]));
+        self.others.count("IDWRITE", heard(&[0x32]));
+        self.others.count("SRWRITE", heard(&[0x01]));
+        self.others.count("WRITE", heard(&[0x12]));
+        self.others.count("UNLOCK", heard(&[0x14]));
+        self.others.count("one of one byte", heard(&[0x04, 0x06, 0x44, 0x54]));
+        let known = [3, 2, 4, 6, 5, 1, 0x13, 0x12, 0x14, 0x32, 0x33, 0x44, 0x54];
+        let unknown = matches!(before.frame, Frame::Heard { code, .. } if !known.contains(&code));
+        self.others.count("an unknown code", unknown);
+        let unheard = before.frame == Frame::Unheard;
+        self.others.count("not heard", unheard && before.countdown > 0);
+        self.others.count("not heard, the cycle over", unheard && before.countdown == 0);
+    }
+
+    fn refused(&mut self, number: u64, read: bool) {
+        self.others.count("too many bits in a read", number == 3 && read);
+        self.others.count("bits while not selected", number == 2);
+        self.others.count("bits without power", number == 5);
+    }
+
+    fn act(&mut self, act: Act, number: u64, before: &Rig, after: &mut Rig) {
+        let answer = after.act(act, number);
+        let source = source(&before.device);
+        match (act, answer.number, number) {
+            (Act::End, 0, 0) => self.others.count("no bits in a read", source.is_some()),
+            (Act::End, 0, leftover) => match (source, answer.reply) {
+                (Some(source), Some(bits)) => self.bits(source, leftover, bits, before),
+                (None, None) => self.none(&before.device),
+                unlike => panic!("{unlike:?} in {:?}", before.device),
+            },
+            (Act::End, refusal, 1..) => self.refused(refusal, source.is_some()),
+            (Act::Cut, 0, _) => self.others.count("a cut in a read", source.is_some()),
+            (Act::Byte, 0, _) => self.next = after.clone().act(Act::Byte, 0).reply,
+            _ => {}
+        }
+    }
+}
+
+#[test]
+fn what_bits_tapes_reach() {
+    let mut half_bytes = HalfBytes::new();
+    for seed in 0..100 {
+        let mut rig = Rig::new(1 + seed % 4);
+        for line in bits_tape(seed, 400).split(|&b| b == b'\n') {
+            let Some((Op::Do(act), number)) = parse(line) else { continue };
+            let before = rig.clone();
+            half_bytes.act(act, number, &before, &mut rig);
+        }
+    }
+    half_bytes.answered.often();
+    half_bytes.mixed.often();
+    half_bytes.others.often();
 }

@@ -58,6 +58,7 @@ fn a_random_tape() {
         ("--generate", model::generate::tape(3, 100)),
         ("--generate-power", model::generate::power_tape(3, 100)),
         ("--generate-latch", model::generate::latch_tape(3, 100)),
+        ("--generate-bits", model::generate::bits_tape(3, 100)),
     ] {
         let output = model(&[option, "3", "100"], b"");
         assert_eq!(output.stdout, tape);
@@ -67,7 +68,7 @@ fn a_random_tape() {
 
 #[test]
 fn wrong_use_of_an_option() {
-    for option in ["--generate", "--generate-power", "--generate-latch"] {
+    for option in ["--generate", "--generate-power", "--generate-latch", "--generate-bits"] {
         for words in [&[][..], &["3"], &["3", "100", "1"], &["3", "many"], &["-1", "100"]] {
             let output = model(&[&[option], words].concat(), b"");
             let told = String::from_utf8(output.stderr).unwrap();

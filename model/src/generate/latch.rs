@@ -62,7 +62,7 @@ impl Writer {
     }
 
     /// SRWRITE, mostly with the whole of its cycle. Bits that it does not look at are any.
-    fn protect(&mut self) {
+    pub(super) fn protect(&mut self) {
         let bp = self.random.pick(&[0, 1, 1, 1, 2, 2, 2, 3]);
         let others = self.random.byte() & 0xF3;
         self.frame(&[EEWREN]);
@@ -93,7 +93,7 @@ impl Writer {
     }
 
     /// Without these bits it would be carried.
-    fn write_with_bits_over(&mut self, low: u8) {
+    pub(super) fn write_with_bits_over(&mut self, low: u8) {
         let leftover = 1 + self.random.below(7);
         let data = self.random.byte();
         match self.random.below(3) {
@@ -107,7 +107,7 @@ impl Writer {
         self.act("end", leftover);
     }
 
-    fn unlock(&mut self) {
+    pub(super) fn unlock(&mut self) {
         self.frame(&[UNLOCK, 0x55]);
         self.frame(&[UNLOCK, 0xAA]);
     }
