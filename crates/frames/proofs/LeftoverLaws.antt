@@ -12,7 +12,7 @@ use lib.Pow.{shr-lt, shr-le}
 use Rattle.base.specs.Words.{pick, every, shifted}
 use Rattle.base.proofs.BitLaws.{shifted-split}
 use Rattle.base.proofs.Every.{every-at}
-use Rattle.base.proofs.Tests.{by-cases, pick-case, pick-when, same→eq, true-T}
+use Rattle.base.proofs.Tests.{pick-case, pick-when, same→eq, true-T}
 use Rattle.record.specs.declared.Code.{Code}
 use Rattle.record.specs.declared.Code.the-variants.{Eeread, Eewrite, Eewrdi, Eewren, Srread, Srwrite, Read, Write, Unlock, Idwrite, Idread, Clrwdt, Clrram, Other}
 use Rattle.record.specs.declared.Device.{Device}
@@ -22,9 +22,8 @@ use Rattle.record.specs.declared.Reply.{Reply}
 use Rattle.record.specs.declared.Reply.the-variants.{Driven, Off}
 use Rattle.record.specs.declared.Stage.{Stage}
 use Rattle.record.specs.declared.Stage.the-variants.{Idle, Opened, Unheard, Instruction, Reading, Writing, Second, Over}
-use Rattle.record.specs.Codes.{codeOf, isCode, heardUnderWip}
-use Rattle.record.specs.Numbers.{stageKind}
-use Rattle.frames.specs.Frame.{statusByte, topBits, firstBits, readingReply, replyAt, nextReply, leftoverReply, firstStage, secondStage, stageAfter}
+use Rattle.record.specs.Codes.{codeOf, isCode}
+use Rattle.frames.specs.Frame.{topBits, firstBits, readingReply, replyAt, nextReply, firstStage, secondStage, stageAfter}
 use Rattle.frames.specs.Leftover.{BrokenOff}
 use Rattle.frames.proofs.ReplyLaws.{ByteOrNone}
 

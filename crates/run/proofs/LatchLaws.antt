@@ -6,9 +6,8 @@ use mathlib.Core.Path.{_≡_, refl, sym, ap, subst, _∙_}
 use mathlib.Core.Bool.{Bool, true, false, not, _&&_, true≢false, false≢true}
 use mathlib.Core.Logic.{_↔_}
 use mathlib.Core.List.{List, [], _∷_}
-use borrow.Author.Tests.{eqb-true, eq-eqb, ltb-true, ltb-false, leb-true, le-ltb, lt-ltb, le-leb, not-false, not-true}
+use borrow.Author.Tests.{eqb-true, eq-eqb, ltb-true, ltb-false, leb-true, le-ltb, lt-ltb, le-leb, not-true}
 use lib.Dec.{eqb, leb}
-use lib.ListN.{length}
 use Rattle.base.specs.Wait.{Waited}
 use Rattle.base.proofs.Tests.{by-cases, both-left, both-right, both-true, true-false}
 use Rattle.record.specs.declared.Act.{Act}
@@ -16,31 +15,27 @@ use Rattle.record.specs.declared.Act.the-variants.{Select, Byte, End, Wait, Cut
 use Rattle.record.specs.declared.Code.{Code}
 use Rattle.record.specs.declared.Code.the-variants.{Eewrdi, Eewren, Other, Srread}
 use Rattle.record.specs.declared.Device.{Device}
-use Rattle.record.specs.declared.Frame.{Frame}
 use Rattle.record.specs.declared.Guard.{Guard}
 use Rattle.record.specs.declared.Stage.{Stage}
 use Rattle.record.specs.declared.Stage.the-variants.{Opened, Instruction}
 use Rattle.record.specs.Codes.{codeOf, codeNumber, isCode, heardUnderWip}
 use Rattle.record.specs.Numbers.{stageKind}
 use Rattle.record.specs.Part.{topOf, bootsOf}
-use Rattle.record.specs.Stages.{selected}
 use Rattle.record.specs.World.{World}
 use Rattle.refusals.specs.InRange.{InRange}
-use Rattle.refusals.specs.Refusal.{wrongArg, wrongPower, wrongSelect, setupRefusal}
-use Rattle.refusals.proofs.TableLaws as table
 use Rattle.ticks.specs.Lines.{wip}
 use Rattle.ticks.specs.RecordTick.{ended}
 use Rattle.ticks.specs.Tick.{waited}
 use Rattle.ticks.proofs.WaitLaws.{Spent, wait-spent, spent-ended}
 use Rattle.frames.specs.Frame.{firstStage, stageAfter, afterByte, afterSelect}
 use Rattle.frames.proofs.AloneLaws.{Past, stage-past, first-begun, first-exactly}
-use Rattle.frames.proofs.FrameLaws.{written-beside, stage-selected}
+use Rattle.frames.proofs.FrameLaws.{written-beside}
 use Rattle.ends.specs.End.{afterEnd}
 use Rattle.ends.proofs.LatchLaws.{end-cleared, end-set}
 use Rattle.power.proofs.PowerLaws.{cut-device, cut-wel, up-wel}
 use Rattle.acts.specs.Act.{Outcome, accepted, refusalIn, performed}
-use Rattle.acts.proofs.OutcomeLaws.{by-acceptance, performed-case, changed-by, done-passed, done-as}
-use Rattle.acts.proofs.SuitedLaws.{passed-range, performed-suited}
+use Rattle.acts.proofs.OutcomeLaws.{by-acceptance, changed-by, done-passed}
+use Rattle.acts.proofs.SuitedLaws.{passed-range}
 use Rattle.run.specs.Claim.{ourChip, worldAfter}
 use Rattle.run.specs.Pieces.{Piece, byte, wait, actsOf, WholeBytes, framed}
 use Rattle.run.specs.Latch.{welOf, EndsAlone, Resets, cuts, ups, disables, completes, OnlyWaits, SentAlone, Latch}
