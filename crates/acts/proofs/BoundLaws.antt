@@ -2,7 +2,7 @@
 -- Assumes nothing.
 use Prim.Native.Nat.{ℕ, _<_, _≤_}
 use native.Mathlib.Omega.{arith}
-use mathlib.Core.Path.{_≡_, subst}
+use mathlib.Core.Path.{_≡_, sym, subst}
 use mathlib.Core.Bool.{false}
 use borrow.Author.Tests.{eqb-true, ltb-false}
 use lib.Dec.{eqb}
@@ -18,7 +18,7 @@ use Rattle.refusals.specs.Refusal.{wrongArg}
 use Rattle.refusals.proofs.TableLaws as table
 use Rattle.ticks.specs.Tick.{tick, lineChanged}
 use Rattle.frames.specs.Frame.{nextReply, leftoverReply}
-use Rattle.frames.proofs.ReplyLaws.{ByteOrNone, reply-or-none, reply-byte}
+use Rattle.frames.proofs.ReplyLaws.{ByteOrNone, driven-off, reply-or-none, reply-byte}
 use Rattle.frames.proofs.LeftoverLaws.{first-byte}
 use Rattle.power.proofs.PowerLaws.{cut-most}
 use Rattle.acts.specs.Act.{Outcome, accepted, refusalIn, performed}
@@ -33,7 +33,7 @@ pub record Small (o : Outcome) : Type 0 where
 
 -- Off drives no byte
 not-driven : (b : ℕ) → Off ≡ Driven b → ⊥
-not-driven b e = let z : _≡_ {A = ℕ} 0 1 = cc in omega arith
+not-driven b e = driven-off b (sym e)
 
 -- a wait uses no more ticks than it is given, a cut stores a page at most, and no other act counts
 accepted-count : (part arg : ℕ) (w : World) (act : Act) → wrongArg act arg ≡ false → accepted part arg w act .count ≤ waitLimit

@@ -20,7 +20,7 @@ byte-passes part k v w h e =
     let a = table.accepted part End k (w .device) _ _ e in
     table.passed part Byte v (w .device) _ _ (record { setup = a .setup; arg = le-ltb 255 v (omega arith); power = a .power; select = a .select })
 
--- and answers the first of those of the byte
+-- and the end's reply is the byte's, broken off
 pub end-broken-off : (part k v : ℕ) (w : World) → Valid part w → k < 8 → BrokenOff k (accepted part v w Byte .reply) (accepted part k w End .reply)
 unfolding leftoverReply
 end-broken-off part k v w z h =

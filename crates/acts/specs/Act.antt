@@ -39,8 +39,8 @@ refused number w = outcome number Off 0 w
 abbrev pub waitedOutcome : Waited World → Outcome
 waitedOutcome r = outcome 0 Off (r .used) (r .after)
 
--- A1, A3, A5, A6, A38. What each act does that no row refuses: time passes in a wait alone; a byte has a reply, an end the bits that it leaves
--- of one, a wait and a cut a count.
+-- A1, A3, A5, A6, A38. What each act does that no row refuses: time passes in a wait alone; a byte has a reply, an end the first
+-- bits of one, a wait and a cut a count.
 abbrev pub accepted : ℕ → ℕ → World → Act → Outcome
 accepted part arg w Select = outcome 0 Off 0 (moved w (afterSelect (w .device)))
 accepted part arg w Byte =

@@ -2,7 +2,7 @@
 -- act's outcome; and that a tape stays one with which the acts may go on.
 -- Assumes nothing.
 use mathlib.Core.Path.{_≡_, refl, sym, ap, _∙_}
-use mathlib.Core.Logic.{_↔_}
+use mathlib.Core.Logic.{_↔_, _≢_}
 use mathlib.Core.Bool.{Bool, true, false, true≢false, _||_, or-true}
 use mathlib.Core.List.{List, _++_}
 use Prim.Native.Nat.{ℕ, _<_}
@@ -15,6 +15,7 @@ use Rattle.base.specs.Words.{over}
 use Rattle.base.proofs.OverLaws.{over-start, over-whole}
 use Rattle.base.proofs.Tests.{by-cases, yes, no, pick-case, pick-when}
 use Rattle.record.specs.declared.Act.{Act}
+use Rattle.record.specs.declared.Act.the-variants.{Select, Byte, End, Wait, Cut, Up}
 use Rattle.record.specs.declared.Device.{Device}
 use Rattle.record.specs.Part.{isPart, sizeOf, idSize}
 use Rattle.record.specs.Fresh.{fresh}
@@ -73,12 +74,29 @@ reply-shown part act arg s c =
     (λ t. sym (yes _ Z t) ∙ sym (no _ _ c))
     (λ t. sym (no _ Z t) ∙ ap replyOut (sym (ap (λ (o : Outcome). o .reply) (refused-same part act arg (s .chip) t))))
 
-pub replies-shown : RepliesShown
-unfolding RepliesShown lineAnswer
-replies-shown line act arg s e f c =
+line-shown :
+    (line : List ℕ) (act : Act) (arg : ℕ) (s : Setup) → requestOf line ≡ ActLine act arg → noPart s ≡ false → showsCount act ≡ false
+    → lineAnswer line s .out ≡ replyOut (performed (s .part) act arg (s .chip) .reply)
+unfolding lineAnswer
+line-shown line act arg s e f c =
     ap (λ (r : Request). requestAnswer r s .out) e
     ∙ ap (λ (a : LineAnswer). a .out) (sym (no (refusedLine 7 s) _ f))
     ∙ reply-shown (s .part) act arg s c
+
+-- a wait and a cut alone show a count
+counts-not : (act : Act) → act ≢ Wait → act ≢ Cut → showsCount act ≡ false
+counts-not Select w c = refl
+counts-not Byte w c = refl
+counts-not End w c = refl
+counts-not Wait w c = absurd (w refl)
+counts-not Cut w c = absurd (c refl)
+counts-not Up w c = refl
+
+pub replies-shown : RepliesShown
+unfolding RepliesShown
+replies-shown line act arg s e f w c =
+    let q = line-shown line act arg s e f (counts-not act w c) in
+    (λ n r. q ∙ ap replyOut r, λ r. q ∙ ap replyOut r)
 
 -- number 7 is given exactly when the line is bad, or is an act's before a part, or a part's after one
 pub seven-exactly : (line : List ℕ) (s : Setup) → (lineAnswer line s .number ≡ 7) ↔ SevenRow line s

@@ -4,10 +4,13 @@ use Prim.Native.Nat.{ℕ}
 use mathlib.Core.Path.{_≡_}
 use mathlib.Core.Bool.{Bool, true, false, not, _||_}
 use mathlib.Core.List.{List}
+use mathlib.Core.Logic.{_≢_}
 use lib.Dec.{eqb}
 use lib.ListN.{length, take}
 use Rattle.base.specs.Words.{pick, over}
 use Rattle.record.specs.declared.Act.{Act}
+use Rattle.record.specs.declared.Act.the-variants.{Wait, Cut}
+use Rattle.record.specs.declared.Reply.the-variants.{Driven, Off}
 use Rattle.record.specs.declared.Device.{Device}
 use Rattle.record.specs.Part.{isPart, sizeOf, idSize}
 use Rattle.record.specs.World.{World, world, freshWorld}
@@ -18,9 +21,9 @@ use Rattle.text.specs.Buffer.{Buffer, buffer, append}
 use Rattle.lines.specs.declared.Request.{Request}
 use Rattle.lines.specs.declared.Request.the-variants.{PartLine, ActLine, Bad}
 use Rattle.lines.specs.declared.Out.{Out}
-use Rattle.lines.specs.declared.Out.the-variants.{Z}
+use Rattle.lines.specs.declared.Out.the-variants.{Value, Z}
 use Rattle.lines.specs.Request.{badLine, requestOf}
-use Rattle.lines.specs.Print.{replyOut, showsCount, outOf, answerLine}
+use Rattle.lines.specs.Print.{outOf, answerLine}
 use Rattle.answers.specs.declared.Progress.{Progress}
 
 -- the part that was accepted, 0 while there is none, and its chip with the memories
@@ -80,12 +83,13 @@ pub data SevenRow (line : List ℕ) (s : Setup) : Type 0 where
   -- T6. It names a part, and there is one.
   again : (arg : ℕ) → requestOf line ≡ PartLine arg → noPart s ≡ false → SevenRow line s
 
--- T8, A4, A38. What a line shows of an act that has no count, once there is a part: its reply, a byte's or the bits of an end, z for none; said apart
--- from the choices above.
+-- T8, A4, A38. What a line shows of an act other than a wait and a cut, once there is a part: the number that its reply drives, a byte's or that of an end's
+-- bits, else z; said apart from the choices above.
 unfoldable pub RepliesShown : Type 0
 RepliesShown =
-    (line : List ℕ) (act : Act) (arg : ℕ) (s : Setup) → requestOf line ≡ ActLine act arg → noPart s ≡ false → showsCount act ≡ false
-    → lineAnswer line s .out ≡ replyOut (performed (s .part) act arg (s .chip) .reply)
+    (line : List ℕ) (act : Act) (arg : ℕ) (s : Setup) → requestOf line ≡ ActLine act arg → noPart s ≡ false → act ≢ Wait → act ≢ Cut
+    → ((n : ℕ) → performed (s .part) act arg (s .chip) .reply ≡ Driven n → lineAnswer line s .out ≡ Value n)
+    × (performed (s .part) act arg (s .chip) .reply ≡ Off → lineAnswer line s .out ≡ Z)
 
 -- T9. A level is high without a part, and where the chip does not hold it low.
 abbrev pub levelHigh : ℕ → Bool → Bool

@@ -11,9 +11,9 @@ use lib.Arith.{bin-ind}
 use lib.Bits.{bitAnd, bitOr, and-step, and-shr, and-comm, and-le-l, or-step, or-shr, or-add-and}
 use lib.Pow.{pow-pos, shr-shr}
 use lib.Count.{ones, onesIn}
-use Rattle.base.specs.Words.{every, bit, shifted, members}
+use Rattle.base.specs.Words.{every, bit, msbFirst, members}
 use Rattle.base.proofs.Tests.{same→eq, true-T, flag-below}
-use Rattle.base.proofs.Every.{every-at, same-below}
+use Rattle.base.proofs.Every.{every-at, same-below, same-test-below}
 
 -- how many ones a byte has is how many offsets are in the set
 pub count-ones : (s : ℕ) → s < 256 → ones s ≡ members s 8
@@ -81,7 +81,7 @@ over-inside old v w c m e f =
 -- bits of 0 and of a power of two
 pub zero-bit : (k : ℕ) → k < 8 → bit 0 k ≡ false
 unfolding every
-zero-bit k h = same→eq (bit 0 k) false (true-T (Bool·beq (bit 0 k) false) (every-at (λ (n : ℕ). Bool·beq (bit 0 n) false) 8 refl k h))
+zero-bit k h = same-test-below (bit 0) (λ (n : ℕ). false) 8 refl k h
 
 pub power-bit : (j k : ℕ) → j < 8 → k < 8 → bit (2 ^ j) k ≡ eqb k j
 unfolding every
@@ -128,10 +128,10 @@ and-bit a b k =
     ∙ both-one (a / 2 ^ k % 2) (b / 2 ^ k % 2) (omega arith) (omega arith)
 
 -- of k + m bits the first k are those of the number without its last m
-pub shifted-split : (k m b : ℕ) → shifted (k + m) b ≡ shifted k (b / 2 ^ m) ++ shifted m b
-unfolding shifted
-shifted-split zero m b = ap (λ (n : ℕ). shifted n b) (let e : 0 + m ≡ m = omega arith in e)
-shifted-split (suc k) m b =
+pub msb-split : (k m b : ℕ) → msbFirst (k + m) b ≡ msbFirst k (b / 2 ^ m) ++ msbFirst m b
+unfolding msbFirst
+msb-split zero m b = ap (λ (n : ℕ). msbFirst n b) (let e : 0 + m ≡ m = omega arith in e)
+msb-split (suc k) m b =
     let s : suc k + m ≡ suc (k + m) = omega arith in
     let e : b / 2 ^ (k + m) ≡ b / 2 ^ m / 2 ^ k = ap (λ (n : ℕ). b / 2 ^ n) (let c : k + m ≡ m + k = omega arith in c) ∙ sym (shr-shr b m k) in
-    ap (λ (n : ℕ). shifted n b) s ∙ (λ i. eqb (e i % 2) 1 ∷ shifted-split k m b i)
+    ap (λ (n : ℕ). msbFirst n b) s ∙ (λ i. eqb (e i % 2) 1 ∷ msb-split k m b i)

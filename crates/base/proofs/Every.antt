@@ -1,7 +1,7 @@
 -- A test that holds at each number below n, computed once, and the rule at each such number; and how a loop builds it.
 -- Assumes nothing.
 use mathlib.Core.Path.{_≡_, refl, sym, ap, subst, _∙_}
-use mathlib.Core.Bool.{Bool, true, false, _&&_, and-false, true≢false}
+use mathlib.Core.Bool.{Bool, true, false, Bool·beq, _&&_, and-false, true≢false}
 use mathlib.Core.Logic.{⊎-elim}
 use Prim.Native.Nat.{ℕ, zero, suc, _+_, _-_, _<_, _≤_}
 use native.Mathlib.Nat.{le-of-suc-le-suc, not-suc-le-zero, eq-or-lt-of-le}
@@ -10,7 +10,7 @@ use native.Mathlib.Omega.{arith}
 use borrow.Author.Tests.{eqb-true, ltb-true}
 use lib.Dec.{eqb, ltb}
 use Rattle.base.specs.Words.{every}
-use Rattle.base.proofs.Tests.{by-cases, both-left, both-right}
+use Rattle.base.proofs.Tests.{by-cases, both-left, both-right, same→eq, true-T}
 
 -- the rule at a number below the bound
 pub every-at : (f : ℕ → Bool) (n : ℕ) → every f n ≡ true → (k : ℕ) → k < n → f k ≡ true
@@ -59,6 +59,10 @@ every-all f (suc n) h =
 -- two functions to numbers agree below n where one computed test says so
 pub same-below : (f g : ℕ → ℕ) (n : ℕ) → every (λ (k : ℕ). eqb (f k) (g k)) n ≡ true → (k : ℕ) → k < n → f k ≡ g k
 same-below f g n t k h = eqb-true (f k) (g k) (every-at (λ (j : ℕ). eqb (f j) (g j)) n t k h)
+
+-- and two tests
+pub same-test-below : (f g : ℕ → Bool) (n : ℕ) → every (λ (k : ℕ). Bool·beq (f k) (g k)) n ≡ true → (k : ℕ) → k < n → f k ≡ g k
+same-test-below f g n t k h = same→eq (f k) (g k) (true-T (Bool·beq (f k) (g k)) (every-at (λ (j : ℕ). Bool·beq (f j) (g j)) n t k h))
 
 -- one value at each of n numbers from a on
 pub same-from : (f : ℕ → ℕ) (v a n : ℕ) → every (λ (j : ℕ). eqb (f (a + j)) v) n ≡ true → (k : ℕ) → a ≤ k → k < a + n → f k ≡ v

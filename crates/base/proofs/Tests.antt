@@ -1,11 +1,12 @@
 -- Laws of tests and choices: what a test that held or failed says, and what holds of both answers of a choice.
 -- Assumes nothing.
-use mathlib.Core.Path.{_≡_, refl}
-use mathlib.Core.Bool.{Bool, true, false, _&&_, _||_, Bool·beq, false≢true, true≢false}
+use mathlib.Core.Path.{_≡_, refl, sym, ap, _∙_}
+use mathlib.Core.Bool.{Bool, true, false, not, _&&_, _||_, Bool·beq, false≢true, true≢false}
 use mathlib.Core.Logic.{_⊎_, inl, inr, ⊎-elim}
 use Prim.Native.Nat.{ℕ, _<_}
 use native.Mathlib.Omega.{arith}
-use lib.Dec.{T}
+use borrow.Author.Tests.{eq-eqb, ne-eqb, ltb-true, ltb-false}
+use lib.Dec.{T, eqb, ltb}
 use mathlib.Core.List.{List, [], _∷_}
 use Rattle.base.specs.Words.{pick, flag, firstOf, allOf, anyAfter, anyOf}
 
@@ -59,6 +60,19 @@ pick-same false a = refl
 pub pick-map : {A B : Type 0} (f : A → B) (t : Bool) (a b : A) → f (pick t a b) ≡ pick t (f a) (f b)
 pick-map f true a b = refl
 pick-map f false a b = refl
+
+-- a choice between a test that may be joined by another and the test alone
+pub pick-or : (t x y : Bool) → pick t (x || y) x ≡ x || (t && y)
+pick-or true x y = refl
+pick-or false true y = refl
+pick-or false false y = refl
+
+-- a number that is not above 0 is 0
+pub not-positive : (n : ℕ) → not (ltb 0 n) ≡ eqb n 0
+not-positive n =
+    by-cases (ltb 0 n)
+    (λ t. ap not t ∙ sym (ne-eqb n 0 (λ e. omega (arith, ltb-true 0 n t))))
+    (λ t. ap not t ∙ sym (eq-eqb n 0 (omega (arith, ltb-false 0 n t))))
 
 -- a row of a chain of refusals that did not refuse
 pub row : (t : Bool) (k x : ℕ) → 0 < k → pick t k x ≡ 0 → (t ≡ false) × (x ≡ 0)

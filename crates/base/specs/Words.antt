@@ -22,9 +22,9 @@ abbrev pub bit : ℕ → ℕ → Bool
 bit b k = eqb (b / 2 ^ k % 2) 1
 
 -- the lowest n bits of a number, the most significant first
-unfoldable pub shifted : ℕ → ℕ → List Bool
-shifted zero b = []
-shifted (suc n) b = bit b n ∷ shifted n b
+unfoldable pub msbFirst : ℕ → ℕ → List Bool
+msbFirst zero b = []
+msbFirst (suc n) b = bit b n ∷ msbFirst n b
 
 -- the number that is 1 where the test holds, else 0
 abbrev pub flag : Bool → ℕ

@@ -8,7 +8,7 @@ use lib.ListN.{set, replicate}
 use Rattle.base.specs.Words.{every}
 use Rattle.calendar.specs.Date.{leapYear}
 use Rattle.calendar.specs.Field.{validField}
-use Rattle.record.specs.declared.Act.the-variants.{Select, End, Cut}
+use Rattle.record.specs.declared.Act.the-variants.{End, Cut}
 use Rattle.record.specs.declared.Device.{Device}
 use Rattle.record.specs.declared.Protection.the-variants.{All}
 use Rattle.record.specs.declared.Reply.{Reply}
@@ -29,13 +29,9 @@ use Rattle.ends.specs.Write.{carried, cycleAfter, welAfter}
 use Rattle.ends.specs.End.{afterEnd}
 use Rattle.power.specs.Power.{afterCut, cutCount, cutWorld}
 use Rattle.acts.specs.Act.{performed}
-use Rattle.edges.specs.Scene.{afterBytes}
+use Rattle.edges.specs.Scene.{afterBytes, sentIn}
 
--- a frame up to its end
-abbrev sentIn : ℕ → List ℕ → World → World
-sentIn part bs w = afterBytes part bs (performed part Select 0 w .after)
-
--- the replies to its ends with 0 to 7 leftover bits
+-- the replies to the ends of a frame with 0 to 7 leftover bits
 abbrev bits : ℕ → List ℕ → World → List Reply
 bits part bs w =
     performed part End 0 (sentIn part bs w) .reply ∷ performed part End 1 (sentIn part bs w) .reply ∷ performed part End 2 (sentIn part bs w) .reply

@@ -29,8 +29,12 @@ unfoldable pub afterBytes : ℕ → List ℕ → World → World
 afterBytes part [] w = w
 afterBytes part (b ∷ bs) w = afterBytes part bs (performed part Byte b w .after)
 
+-- a frame up to its end
+abbrev pub sentIn : ℕ → List ℕ → World → World
+sentIn part bs w = afterBytes part bs (performed part Select 0 w .after)
+
 unfoldable pub replies : ℕ → List ℕ → List ℕ → World → List Reply
-replies part first bs w = bytesAnswered part bs (afterBytes part first (performed part Select 0 w .after))
+replies part first bs w = bytesAnswered part bs (sentIn part first w)
 
 -- the chip with the memories of a 1 Kbit part, every byte FFh
 abbrev pub lent : Device → World

@@ -1,5 +1,5 @@
--- The whole case as text, what comes before a part, the two levels at work and frames that are broken off: the bytes of a tape, and the bytes of its answers. It is one closed
--- statement about `tapeAnswers`, so about what `feed` and `finish` put into a buffer; not about any other tape.
+-- The whole case as text, what comes before a part, the two levels at work and frames that are broken off: the bytes of a tape, and the bytes of its
+-- answers. It is one closed statement about `tapeAnswers`, so about what `feed` and `finish` put into a buffer; not about any other tape.
 -- Assumes nothing.
 use Prim.Native.Nat.{ℕ}
 use Prim.Native.String.{String}
@@ -69,7 +69,7 @@ levelCase =
     ∷ []
 
 -- T8, A38. WRITE of A5h, 1010 0101, at 20h; then frames that are broken off: READ of it after five bits, READ at 60h, where SO drives 0, and a READ
--- without its address, where SO is off. An end with eight leftover bits is refused, with none no bits are shown, and without a frame it is refused.
+-- without its address, where SO is off. An end with eight leftover bits is refused, one with none shows z, and one without a frame is refused.
 abbrev pub brokenCase : List (String × String)
 brokenCase =
     ("op=part arg=2", "no=0 out=z irq=1 wdo=1")

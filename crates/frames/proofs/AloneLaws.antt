@@ -18,6 +18,11 @@ use Rattle.record.specs.Stages.{codeAt}
 use Rattle.record.proofs.CodeLaws.{code-back, code-byte}
 use Rattle.frames.specs.Frame.{firstStage, secondStage, stageAfter}
 
+-- a first byte opens no frame anew
+pub first-begun : (busy : Bool) (x : Code) → firstStage busy x ≢ Opened
+first-begun busy x =
+    pick-case (λ (s : Stage). s ≢ Opened) (busy && not (heardUnderWip x)) (λ e. omega (arith, ap stageKind e)) (λ e. omega (arith, ap stageKind e))
+
 module _ (c : Code) (top : ℕ) (known : isCode c Other ≡ false) (moved : isCode c Srread ≡ false) where
   -- a stage that a further byte does not bring to the code's instruction
   abbrev pub Past : Stage → Type 0
@@ -58,10 +63,6 @@ module _ (c : Code) (top : ℕ) (known : isCode c Other ≡ false) (moved : isCo
   stage-past busy v (Second q) n = past _ (λ e. omega arith) (λ e. omega arith)
   stage-past busy v (Over l) n = past _ (λ e. omega arith) (λ e. omega arith)
 
-  pub first-begun : (busy : Bool) (x : Code) → firstStage busy x ≢ Opened
-  first-begun busy x =
-      pick-case (λ (s : Stage). s ≢ Opened) (busy && not (heardUnderWip x)) (λ e. omega (arith, ap stageKind e)) (λ e. omega (arith, ap stageKind e))
-
   module _ (deaf : heardUnderWip c ≡ false) where
     told : (busy : Bool) (b : ℕ) → firstStage busy (codeOf b) ≡ Instruction c → (b ≡ codeNumber c) × (busy ≡ false)
     told busy b =
@@ -75,3 +76,7 @@ module _ (c : Code) (top : ℕ) (known : isCode c Other ≡ false) (moved : isCo
 
     pub first-exactly : (busy : Bool) (b : ℕ) → (firstStage busy (codeOf b) ≡ Instruction c) ↔ ((b ≡ codeNumber c) × (busy ≡ false))
     first-exactly busy b = (told busy b, λ p. rw (p .0, p .1) (ap Instruction (code-back c)))
+
+-- nor does a later one
+pub stage-begun : (top : ℕ) (busy : Bool) (v : ℕ) (s : Stage) → s ≢ Opened → stageAfter top busy v s ≢ Opened
+stage-begun top busy v s n = stage-past Eewren top refl refl busy v s n .0

@@ -3,16 +3,16 @@
 use Prim.Native.Nat.{ℕ, _+_, _-_, _^_, _<_}
 use native.Mathlib.Omega.{arith}
 use mathlib.Core.Path.{_≡_, refl, sym, ap, subst, _∙_}
-use mathlib.Core.Bool.{Bool, true, false, not, Bool·beq, _&&_, _||_}
+use mathlib.Core.Bool.{Bool, true, false, not, _&&_, _||_, true≢false}
 use mathlib.Core.Logic.{_↔_, _⊎_, inl, inr, _≢_, ⊎-elim}
 use mathlib.Core.List.{List, _++_}
 use borrow.Author.Tests.{eqb-true, eq-eqb, eqb-false}
 use lib.Dec.{eqb}
 use lib.Pow.{shr-lt, shr-le}
-use Rattle.base.specs.Words.{pick, every, shifted}
-use Rattle.base.proofs.BitLaws.{shifted-split}
-use Rattle.base.proofs.Every.{every-at}
-use Rattle.base.proofs.Tests.{pick-case, pick-when, same→eq, true-T}
+use Rattle.base.specs.Words.{pick, every, msbFirst}
+use Rattle.base.proofs.BitLaws.{msb-split}
+use Rattle.base.proofs.Every.{same-test-below}
+use Rattle.base.proofs.Tests.{pick-case, pick-when}
 use Rattle.record.specs.declared.Code.{Code}
 use Rattle.record.specs.declared.Code.the-variants.{Eeread, Eewrite, Eewrdi, Eewren, Srread, Srwrite, Read, Write, Unlock, Idwrite, Idread, Clrwdt, Clrram, Other}
 use Rattle.record.specs.declared.Device.{Device}
@@ -25,15 +25,15 @@ use Rattle.record.specs.declared.Stage.the-variants.{Idle, Opened, Unheard, Ins
 use Rattle.record.specs.Codes.{codeOf, isCode}
 use Rattle.frames.specs.Frame.{topBits, firstBits, readingReply, replyAt, nextReply, firstStage, secondStage, stageAfter}
 use Rattle.frames.specs.Leftover.{BrokenOff}
-use Rattle.frames.proofs.ReplyLaws.{ByteOrNone}
+use Rattle.frames.proofs.ReplyLaws.{ByteOrNone, driven-off}
 
--- k bits are no more than they hold
+-- k bits make a number below 2 to the power k,
 pub top-below : (k b : ℕ) → k < 8 → b < 256 → topBits k b < 2 ^ k
 top-below k b hk hb = let e : 8 ≡ k + (8 - k) = omega arith in shr-lt k (8 - k) (subst (λ (n : ℕ). b < 2 ^ n) e hb)
 
 -- and the eight of a byte are they and the rest
-pub top-first : (k b : ℕ) → k < 8 → shifted 8 b ≡ shifted k (topBits k b) ++ shifted (8 - k) b
-top-first k b hk = let e : 8 ≡ k + (8 - k) = omega arith in ap (λ (n : ℕ). shifted n b) e ∙ shifted-split k (8 - k) b
+pub top-first : (k b : ℕ) → k < 8 → msbFirst 8 b ≡ msbFirst k (topBits k b) ++ msbFirst (8 - k) b
+top-first k b hk = let e : 8 ≡ k + (8 - k) = omega arith in ap (λ (n : ℕ). msbFirst n b) e ∙ msb-split k (8 - k) b
 
 -- The first bits of a reply are those of the exchange broken off.
 pub broken-off : (k : ℕ) (r : Reply) → k < 8 → ByteOrNone r → BrokenOff k r (firstBits k r)
@@ -44,7 +44,7 @@ broken-off k (Driven b) hk hb =
     positive k n = omega (arith, n)
 broken-off k Off hk hb = tt
 
--- and no more than it
+-- They are a byte, or none.
 pub first-byte : (k : ℕ) (r : Reply) → ByteOrNone r → ByteOrNone (firstBits k r)
 first-byte k (Driven b) hb = pick-case ByteOrNone (eqb k 0) tt (omega (arith, shr-le b (8 - k)))
 first-byte k Off hb = tt
@@ -55,7 +55,7 @@ isDriven (Driven b) = true
 isDriven Off = false
 
 pub off-undriven : (r : Reply) → isDriven r ≡ false → r ≡ Off
-off-undriven (Driven b) e = absurd (omega (arith, ap (λ (t : Bool). pick {A = ℕ} t 1 0) e))
+off-undriven (Driven b) e = absurd (true≢false e)
 off-undriven Off e = refl
 
 -- the bits of a reply are none exactly if there are none or it is none
@@ -64,9 +64,6 @@ first-none k (Driven b) = (
   pick-when (λ (x : Reply). x ≡ Off → (k ≡ 0) ⊎ (Driven b ≡ Off)) (eqb k 0) (λ t e. inl (eqb-true k 0 t)) (λ t e. absurd (driven-off (topBits k b) e)),
   ⊎-elim (λ e. subst (λ (t : Bool). pick t Off (Driven (topBits k b)) ≡ Off) (sym (eq-eqb k 0 e)) refl) (λ e. absurd (driven-off b e)),
 )
-  where
-    driven-off : (n : ℕ) → Driven n ≡ Off → ⊥
-    driven-off n e = omega (arith, ap (λ (x : Reply). pick {A = ℕ} (isDriven x) 1 0) e)
 first-none k Off = (λ e. inr refl, λ e. refl)
 
 -- SO is driven at these stages,
@@ -111,7 +108,7 @@ drivingOn (Writing p) = false
 drivingOn (Second q) = false
 drivingOn (Over l) = false
 
--- A byte past the first brings a stage whose SO is as the one before it has it from then on.
+-- A byte past the first: SO is then, and stays, as `drivingOn` told before it.
 pub record GoesOn (s x : Stage) : Type 0 where
   pub now : driving x ≡ drivingOn s
   pub later : drivingOn x ≡ drivingOn s
@@ -142,20 +139,17 @@ goes-on top busy v (Writing p) n = record { now = refl; later = refl }
 goes-on top busy v (Second q) n = record { now = refl; later = refl }
 goes-on top busy v (Over l) n = record { now = refl; later = refl }
 
--- The first byte, by its number: 05h drives at the next one, 13h after an address, and so do 03h and 33h if they are heard.
-same-bytes : (f g : ℕ → Bool) → every (λ (b : ℕ). Bool·beq (f b) (g b)) 256 ≡ true → (b : ℕ) → b < 256 → f b ≡ g b
-same-bytes f g t b h = same→eq (f b) (g b) (true-T (Bool·beq (f b) (g b)) (every-at (λ (n : ℕ). Bool·beq (f n) (g n)) 256 t b h))
-
+-- The first byte, by its number: 05h drives at the next one,
 pub first-drives : (busy : Bool) (b : ℕ) → b < 256 → driving (firstStage busy (codeOf b)) ≡ eqb b 0x05
 unfolding every
-first-drives true b h = same-bytes (λ (n : ℕ). driving (firstStage true (codeOf n))) (λ (n : ℕ). eqb n 0x05) refl b h
-first-drives false b h = same-bytes (λ (n : ℕ). driving (firstStage false (codeOf n))) (λ (n : ℕ). eqb n 0x05) refl b h
+first-drives true b h = same-test-below (λ (n : ℕ). driving (firstStage true (codeOf n))) (λ (n : ℕ). eqb n 0x05) 256 refl b h
+first-drives false b h = same-test-below (λ (n : ℕ). driving (firstStage false (codeOf n))) (λ (n : ℕ). eqb n 0x05) 256 refl b h
 
-pub first-goes-on :
-    (busy : Bool) (b : ℕ) → b < 256
-    → drivingOn (firstStage busy (codeOf b)) ≡ eqb b 0x05 || (eqb b 0x13 || (not busy && (eqb b 0x03 || eqb b 0x33)))
+-- 13h after an address, and so do 03h and 33h if they are heard.
+abbrev pub readsOn : Bool → ℕ → Bool
+readsOn busy b = eqb b 0x05 || (eqb b 0x13 || (not busy && (eqb b 0x03 || eqb b 0x33)))
+
+pub first-goes-on : (busy : Bool) (b : ℕ) → b < 256 → drivingOn (firstStage busy (codeOf b)) ≡ readsOn busy b
 unfolding every
-first-goes-on true b h =
-    same-bytes (λ (n : ℕ). drivingOn (firstStage true (codeOf n))) (λ (n : ℕ). eqb n 0x05 || (eqb n 0x13 || (not true && (eqb n 0x03 || eqb n 0x33)))) refl b h
-first-goes-on false b h =
-    same-bytes (λ (n : ℕ). drivingOn (firstStage false (codeOf n))) (λ (n : ℕ). eqb n 0x05 || (eqb n 0x13 || (not false && (eqb n 0x03 || eqb n 0x33)))) refl b h
+first-goes-on true b h = same-test-below (λ (n : ℕ). drivingOn (firstStage true (codeOf n))) (readsOn true) 256 refl b h
+first-goes-on false b h = same-test-below (λ (n : ℕ). drivingOn (firstStage false (codeOf n))) (readsOn false) 256 refl b h

@@ -25,6 +25,10 @@ abbrev pub ByteOrNone : Reply → Type 0
 ByteOrNone (Driven b) = b < 256
 ByteOrNone Off = Unit {0}
 
+-- a driven reply is not none
+pub driven-off : (n : ℕ) → Driven n ≡ Off → ⊥
+driven-off n e = let z : _≡_ {A = ℕ} 0 1 = cc in omega arith
+
 module _ (part : ℕ) (w : World) (r : InRange part (w .device)) (z : Shaped part w) where
   status-byte : statusByte (w .device) < 256
   unfolding statusByte

@@ -58,7 +58,7 @@ replyAt ee id d (Over l) = Off
 unfoldable pub nextReply : List ℕ → List ℕ → Device → Reply
 nextReply ee id d = replyAt ee id d (d .frame .stage)
 
--- A38. The first k bits of a byte, which leaves SO with its most significant bit first: its k highest, as a number below 2 to the power k.
+-- A38. The first k bits of a byte, which leaves SO with its most significant bit first: the number that its k highest make.
 abbrev pub topBits : ℕ → ℕ → ℕ
 topBits k b = b / 2 ^ (8 - k)
 

@@ -86,7 +86,7 @@ pub fn next_reply(eeprom: &[u8], id: &[u8], d: Device) -> Reply
     }
 }
 
-// The first k bits of a reply, the most significant first.
+// A38, G2. The first k bits of a reply, the most significant first.
 fn first_bits(k: u8, reply: Reply) -> Reply
     requires { ⌜ k < 8 ⌝ }
     ensures { λ r. ⌜ r ≡ firstBits k reply ⌝ }
@@ -100,7 +100,7 @@ fn first_bits(k: u8, reply: Reply) -> Reply
     Reply::Driven(b >> (8 - k))
 }
 
-// What an end with k leftover bits answers.
+// A38. What an end with k leftover bits answers.
 pub fn leftover_reply(k: u8, eeprom: &[u8], id: &[u8], d: Device) -> Reply
     requires { ⌜ (k < 8) × (eepromPointer (framePlace (d .frame .stage)) < length (now eeprom)) × (idPointer (framePlace (d .frame .stage)) < length (now id)) ⌝ }
     ensures { λ r. ⌜ r ≡ leftoverReply k (now (eeprom .entry)) (now (id .entry)) d ⌝ }

@@ -19,7 +19,7 @@ abbrev pub outText : Out → List ℕ
 outText (Value n) = decimalText n
 outText Z = bytesOf "z"
 
--- A4, A38, G2. A reply is what the chip drives, a byte or the bits that an end left of it, or none.
+-- A4, A38, G2. A reply is what the chip drives, a byte or the first bits of one, or none.
 abbrev pub replyOut : Reply → Out
 replyOut (Driven b) = Value b
 replyOut Off = Z

@@ -165,7 +165,8 @@ pub struct Device {
     pub cycle: Cycle,
 }
 
-// The answer on SO: what is driven, the byte of an exchange or the bits of one that an end broke off, or none while SO is off.
+// The answer on SO: what is driven, the byte of an exchange or the bits of one that an end broke off; or none, where SO is off or no bit was
+// clocked.
 pub enum Reply {
     Driven(u8),
     Off,

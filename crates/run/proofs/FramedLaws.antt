@@ -1,4 +1,4 @@
--- A frame from its select on: its bytes and waits are done, a byte moves the stage and a wait does not.
+-- A frame from its select on: its bytes are done and move the stage; a wait, done or refused, leaves it.
 -- Assumes nothing.
 use Prim.Native.Nat.{ℕ, _<_}
 use native.Mathlib.Omega.{arith}

@@ -37,8 +37,8 @@ use Rattle.acts.specs.Act.{Outcome, accepted, refusalIn, performed}
 use Rattle.acts.proofs.OutcomeLaws.{by-acceptance, changed-by, done-passed}
 use Rattle.acts.proofs.SuitedLaws.{passed-range}
 use Rattle.run.specs.Claim.{ourChip, worldAfter}
-use Rattle.run.specs.Pieces.{Piece, byte, wait, actsOf, WholeBytes, framed}
-use Rattle.run.specs.Latch.{welOf, EndsAlone, Resets, cuts, ups, disables, completes, OnlyWaits, SentAlone, Latch}
+use Rattle.run.specs.Pieces.{Piece, byte, wait, actsOf, WholeBytes, someByte, framed}
+use Rattle.run.specs.Latch.{welOf, EndsAlone, Resets, cuts, ups, disables, completes, SentAlone, Latch}
 use Rattle.run.proofs.FramedLaws.{InFrame, stageOf, frame-done, byte-moves, wait-moves, still-framed, begun, at-opened}
 
 -- a wait: where a cycle ended in it WEL is clear, else as it was
@@ -181,15 +181,15 @@ module _ (part : ℕ) (c : Code) (known : isCode c Other ≡ false) (moved : isC
       gone ps (performed part Wait n v .after) z (m .frame) (subst Gone (sym (m .stage)) g)
 
   -- at it a byte brings the frame past it, and waits leave it there
-  there : (ps : List Piece) (v : World) → WholeBytes ps → InFrame part v → stageOf v ≡ Instruction c → (stageOf (after ps v) ≡ Instruction c) ↔ OnlyWaits ps
+  there : (ps : List Piece) (v : World) → WholeBytes ps → InFrame part v → stageOf v ≡ Instruction c → (stageOf (after ps v) ≡ Instruction c) ↔ (someByte ps ≡ false)
   unfolding worldAfter ourChip
-  there [] v z f s = (λ e. tt, λ e. s)
+  there [] v z f s = (λ e. refl, λ e. s)
   there (byte b ∷ ps) v z f s =
       let m = byte-moves part b v (z .0) f in
       let g : Gone (stageOf (performed part Byte b v .after)) =
       subst Gone (sym (m .stage))
       (stage-past c (topOf part) known moved (wip (v .device)) b (stageOf v) (λ e. omega (arith, ap stageKind (sym s ∙ e)))) in
-      (λ e. gone ps (performed part Byte b v .after) (z .1) (m .frame) g .1 e, λ e. absurd e)
+      (λ e. absurd (gone ps (performed part Byte b v .after) (z .1) (m .frame) g .1 e), λ e. absurd (true≢false e))
   there (wait n ∷ ps) v z f s = let m = wait-moves part n v f in there ps (performed part Wait n v .after) z (m .frame) (m .stage ∙ s)
 
   -- from the select on
@@ -212,7 +212,7 @@ module _ (part : ℕ) (c : Code) (known : isCode c Other ≡ false) (moved : isC
             (λ t.
             absurd
             (gone ps x (z .1) (m .frame)
-            (subst Gone (sym q) (first-begun c (topOf part) known moved (wip (v .device)) (codeOf b), λ r. apart (l .0 r) t)) .1 e)),
+            (subst Gone (sym q) (first-begun (wip (v .device)) (codeOf b), λ r. apart (l .0 r) t)) .1 e)),
         λ p. there ps x (z .1) (m .frame) (q ∙ l .1 (p .0, le-ltb 0 (v .device .cycle .left) (omega (arith, p .1)))) .1 (p .2),
       )
     where

@@ -6,32 +6,34 @@ use mathlib.Core.Path.{_≡_, refl, sym, ap, subst, _∙_}
 use mathlib.Core.Bool.{Bool, true, false, not, _&&_, _||_}
 use mathlib.Core.Logic.{_↔_, _⊎_, _≢_, inl, inr, ⊎-elim}
 use mathlib.Core.List.{List, [], _∷_}
-use borrow.Author.Tests.{eqb-true, ne-eqb, ltb-true, ltb-false, eq-eqb, le-ltb}
+use borrow.Author.Tests.{eqb-true, ne-eqb, le-ltb}
 use lib.Dec.{eqb}
 use Rattle.base.specs.Words.{pick}
-use Rattle.base.proofs.Tests.{by-cases, pick-case}
+use Rattle.base.proofs.Tests.{by-cases, pick-case, pick-or, not-positive}
 use Rattle.record.specs.declared.Act.the-variants.{Select, Byte, End, Wait}
-use Rattle.record.specs.declared.Code.the-variants.{Eewren}
 use Rattle.record.specs.declared.Reply.{Reply}
 use Rattle.record.specs.declared.Reply.the-variants.{Driven, Off}
 use Rattle.record.specs.declared.Stage.{Stage}
-use Rattle.record.specs.declared.Stage.the-variants.{Opened}
+use Rattle.record.specs.declared.Stage.the-variants.{Idle, Opened}
 use Rattle.record.specs.Codes.{codeOf}
 use Rattle.record.specs.Part.{topOf}
-use Rattle.record.specs.World.{World, Shaped}
+use Rattle.record.specs.Setters.{withStage, withLock}
+use Rattle.record.specs.World.{World, moved, Shaped}
 use Rattle.ticks.specs.Lines.{wip}
 use Rattle.frames.specs.Frame.{firstStage, stageAfter, nextReply, leftoverReply}
 use Rattle.frames.specs.Leftover.{BrokenOff}
-use Rattle.frames.proofs.AloneLaws.{stage-past, first-begun}
+use Rattle.frames.proofs.AloneLaws.{stage-begun, first-begun}
+use Rattle.frames.proofs.ReplyLaws.{driven-off}
 use Rattle.frames.proofs.LeftoverLaws.{isDriven, off-undriven, first-none, driving, next-driven, drivingOn, goes-on, first-drives, first-goes-on}
+use Rattle.ends.proofs.LeftoverLaws.{rest-stays}
 use Rattle.acts.specs.Act.{Outcome, accepted, refusalIn, performed}
 use Rattle.acts.proofs.AcceptedLaws.{few-bits}
 use Rattle.acts.proofs.LeftoverLaws.{byte-passes, end-broken-off}
 use Rattle.acts.proofs.OutcomeLaws.{by-acceptance, done-passed, done-as, refused-same}
 use Rattle.acts.proofs.SuitedLaws.{passed-range}
 use Rattle.run.specs.Claim.{ourChip, worldAfter}
-use Rattle.run.specs.Pieces.{Piece, byte, wait, actsOf, WholeBytes, framed}
-use Rattle.run.specs.Leftover.{Agrees, someByte, soDriven, LeftoverBits}
+use Rattle.run.specs.Pieces.{Piece, byte, wait, actsOf, WholeBytes, someByte, framed}
+use Rattle.run.specs.Leftover.{InItsPlace, soDriven, LeftoverBits}
 use Rattle.run.proofs.FramedLaws.{InFrame, stageOf, frame-done, byte-moves, wait-moves, still-framed, begun, at-opened}
 use Rattle.run.proofs.RunLaws.{reached-valid}
 
@@ -46,7 +48,7 @@ module _ (part k v : ℕ) (w : World) (h : v < 256) (e : performed part End k w 
   as-byte : performed part Byte v w ≡ accepted part v w Byte
   as-byte = by-acceptance part Byte v w (byte-passes part k v w h passed)
 
-  agreed : Shaped part w → Agrees part k v w
+  agreed : Shaped part w → InItsPlace part k v w
   agreed z =
       let b = end-broken-off part k v w (record { range = passed-range part End k w passed; shaped = z }) (few-bits part k (w .device) _ _ passed) in (
         ap (λ (o : Outcome). o .number) as-byte,
@@ -64,38 +66,37 @@ module _ (part k v : ℕ) (w : World) (h : v < 256) (e : performed part End k w 
         λ q. re ∙ n .1 (⊎-elim (λ z. inl z) (λ z. inr (sym rb ∙ z)) q),
       )
 
+-- what an end with leftover bits leaves
+rest-left :
+    (part k : ℕ) (w : World) → 0 < k → performed part End k w .number ≡ 0
+    → performed part End k w .after ≡ moved w (withLock (withStage (w .device) Idle) (performed part End k w .after .device .guard .lock))
+rest-left part k w h e =
+    let q = ap (λ (o : Outcome). o .after) (done-as part End k w e) in
+    q ∙ ap (moved w) (rest-stays (topOf part) k (w .device) h)
+    ∙ sym (ap (λ (x : World). moved w (withLock (withStage (w .device) Idle) (x .device .guard .lock))) q)
+
+no-count : (part k : ℕ) (w : World) → performed part End k w .count ≡ 0
+no-count part k w =
+    by-cases (eqb (performed part End k w .number) 0)
+    (λ t. ap (λ (o : Outcome). o .count) (done-as part End k w (eqb-true _ 0 t)))
+    (λ t. ap (λ (o : Outcome). o .count) (refused-same part End k w t))
+
 -- an end that is refused
 refused-none : (part k : ℕ) (w : World) → performed part End k w .number ≢ 0 → performed part End k w .reply ≡ Off
 refused-none part k w n = ap (λ (o : Outcome). o .reply) (refused-same part End k w (ne-eqb _ 0 n))
 
--- a number is what `BrokenOff` says of it
-drawn : (k n : ℕ) (r : Reply) → BrokenOff k r (Driven n) → n < 2 ^ k
-drawn k n (Driven b) x = x .1
-drawn k n Off x = absurd x
+-- a number is below 2 to the power k
+broken-below : (k n : ℕ) (r : Reply) → BrokenOff k r (Driven n) → n < 2 ^ k
+broken-below k n (Driven b) x = x .1
+broken-below k n Off x = absurd x
 
 number-below : (part k n : ℕ) (w : World) → Shaped part w → performed part End k w .reply ≡ Driven n → n < 2 ^ k
 number-below part k n w z e =
     by-cases (eqb (performed part End k w .number) 0)
     (λ t.
-    drawn k n (performed part Byte 0 w .reply)
+    broken-below k n (performed part Byte 0 w .reply)
     (subst (BrokenOff k (performed part Byte 0 w .reply)) e (agreed part k 0 w (omega arith) (eqb-true _ 0 t) z .1)))
-    (λ t. absurd (off-driven n (sym (ap (λ (o : Outcome). o .reply) (refused-same part End k w t)) ∙ e)))
-  where
-    off-driven : (n : ℕ) → Off ≡ Driven n → ⊥
-    off-driven n e = omega (arith, ap (λ (r : Reply). pick {A = ℕ} (isDriven r) 1 0) e)
-
--- no cycle runs exactly if it has no tick left
-idle-cycle : (n : ℕ) → not (lib.Dec.ltb 0 n) ≡ eqb n 0
-idle-cycle n =
-    by-cases (lib.Dec.ltb 0 n)
-    (λ t. ap not t ∙ sym (ne-eqb n 0 (λ e. omega (arith, ltb-true 0 n t))))
-    (λ t. ap not t ∙ sym (eq-eqb n 0 (omega (arith, ltb-false 0 n t))))
-
--- a choice between a test and that test or another
-joined : (t x y : Bool) → pick t (x || y) x ≡ x || (t && y)
-joined true x y = refl
-joined false true y = refl
-joined false false y = refl
+    (λ t. absurd (driven-off n (sym e ∙ ap (λ (o : Outcome). o .reply) (refused-same part End k w t))))
 
 -- whether SO is driven after the pieces of a frame
 module _ (part : ℕ) where
@@ -112,7 +113,7 @@ module _ (part : ℕ) where
       let m = byte-moves part b v (z .0) f in
       let g = goes-on (topOf part) (wip (v .device)) b (stageOf v) n in
       going ps (performed part Byte b v .after) (z .1) (m .frame)
-      (λ q. stage-past Eewren (topOf part) refl refl (wip (v .device)) b (stageOf v) n .0 (sym (m .stage) ∙ q))
+      (λ q. stage-begun (topOf part) (wip (v .device)) b (stageOf v) n (sym (m .stage) ∙ q))
       ∙ pick-case (λ (t : Bool). t ≡ drivingOn (stageOf v)) (someByte ps) (ap drivingOn (m .stage) ∙ g .later) (ap driving (m .stage) ∙ g .now)
   going (wait t ∷ ps) v z f n =
       let m = wait-moves part t v f in
@@ -129,10 +130,10 @@ module _ (part : ℕ) where
       let m = byte-moves part b v (z .0) f in
       let q : stageOf x ≡ firstStage busy (codeOf b) = m .stage ∙ ap (stageAfter (topOf part) busy b) s in
       let rest : Bool → Bool = λ t. eqb b 0x13 || (t && (eqb b 0x03 || eqb b 0x33)) in
-      going ps x (z .1) (m .frame) (λ r. first-begun Eewren (topOf part) refl refl busy (codeOf b) (sym q ∙ r))
+      going ps x (z .1) (m .frame) (λ r. first-begun busy (codeOf b) (sym q ∙ r))
       ∙ (λ i. pick (someByte ps) ((ap drivingOn q ∙ first-goes-on busy b (z .0)) i) ((ap driving q ∙ first-drives busy b (z .0)) i))
-      ∙ joined (someByte ps) (eqb b 0x05) (rest (not busy))
-      ∙ ap (λ (t : Bool). eqb b 0x05 || (someByte ps && rest t)) (idle-cycle (v .device .cycle .left))
+      ∙ pick-or (someByte ps) (eqb b 0x05) (rest (not busy))
+      ∙ ap (λ (t : Bool). eqb b 0x05 || (someByte ps && rest t)) (not-positive (v .device .cycle .left))
   driven-by (wait n ∷ ps) v z f s = let m = wait-moves part n v f in driven-by ps (performed part Wait n v .after) z (m .frame) (m .stage ∙ s)
 
 -- so of the frame of a select
@@ -162,4 +163,6 @@ leftover-bits =
       frameNone = frame-none;
       below = number-below;
       refused = refused-none;
+      rest = rest-left;
+      uncounted = no-count;
     }

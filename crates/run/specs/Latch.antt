@@ -13,7 +13,7 @@ use Rattle.record.specs.declared.Device.{Device}
 use Rattle.record.specs.declared.Stage.the-variants.{Instruction}
 use Rattle.record.specs.World.{World}
 use Rattle.acts.specs.Act.{performed}
-use Rattle.run.specs.Pieces.{Piece, byte, wait, WholeBytes, framed}
+use Rattle.run.specs.Pieces.{Piece, byte, wait, WholeBytes, someByte, framed}
 
 -- WEL of a chip with its memories
 abbrev pub welOf : World → Bool
@@ -35,16 +35,10 @@ pub data Resets (act : Act) (arg used : ℕ) (d : Device) : Type 0 where
   -- F28. a wait that used all the ticks that a cycle had left
   completes : act ≡ Wait → 0 < d .cycle .left → used ≡ d .cycle .left → Resets act arg used d
 
--- no byte came
-abbrev pub OnlyWaits : List Piece → Type 0
-OnlyWaits [] = Unit {0}
-OnlyWaits (byte b ∷ ps) = ⊥
-OnlyWaits (wait n ∷ ps) = OnlyWaits ps
-
 -- F19, F31. One byte came, this one, at a moment when no cycle ran; the rest is waits.
 abbrev pub SentAlone : ℕ → ℕ → List Piece → World → Type 0
 SentAlone part code [] w = ⊥
-SentAlone part code (byte b ∷ ps) w = (b ≡ code) × (w .device .cycle .left ≡ 0) × OnlyWaits ps
+SentAlone part code (byte b ∷ ps) w = (b ≡ code) × (w .device .cycle .left ≡ 0) × (someByte ps ≡ false)
 SentAlone part code (wait n ∷ ps) w = SentAlone part code ps (performed part Wait n w .after)
 
 -- R14. The promise.

@@ -9,24 +9,20 @@ use mathlib.Core.Logic.{_↔_, _⊎_, _≢_}
 use lib.Dec.{eqb}
 use Rattle.record.specs.declared.Act.the-variants.{Select, Byte, End, Wait}
 use Rattle.record.specs.declared.Reply.the-variants.{Driven, Off}
+use Rattle.record.specs.declared.Stage.the-variants.{Idle}
 use Rattle.record.specs.Part.{isPart}
-use Rattle.record.specs.World.{World, Shaped}
+use Rattle.record.specs.Setters.{withStage, withLock}
+use Rattle.record.specs.World.{World, moved, Shaped}
 use Rattle.frames.specs.Leftover.{BrokenOff}
 use Rattle.acts.specs.Act.{performed}
 use Rattle.run.specs.Claim.{Input, reached}
-use Rattle.run.specs.Pieces.{Piece, byte, wait, WholeBytes, framed}
+use Rattle.run.specs.Pieces.{Piece, byte, wait, WholeBytes, someByte, framed}
 
--- an end with k leftover bits, and in its place an exchange of any byte: it is done too, and its reply is broken off so
-abbrev pub Agrees : ℕ → ℕ → ℕ → World → Type 0
-Agrees part k v w = (performed part Byte v w .number ≡ 0) × BrokenOff k (performed part Byte v w .reply) (performed part End k w .reply)
+-- an end with k leftover bits, and in its place an exchange of any byte: that is done too, and the end's reply is that of the exchange, broken off
+abbrev pub InItsPlace : ℕ → ℕ → ℕ → World → Type 0
+InItsPlace part k v w = (performed part Byte v w .number ≡ 0) × BrokenOff k (performed part Byte v w .reply) (performed part End k w .reply)
 
--- a byte came
-abbrev pub someByte : List Piece → Bool
-someByte [] = false
-someByte (byte b ∷ ps) = true
-someByte (wait n ∷ ps) = someByte ps
-
--- F3, F4, F5, F31, F32. SO is driven in a frame from its second byte on if the first is SRREAD's, 05h; from its third on if it is READ's, 13h, or, at a
+-- F2, F3, F4, F5, F31, F32. SO is driven in a frame from its second byte on if the first is SRREAD's, 05h; from its third on if it is READ's, 13h, or, at a
 -- moment when no cycle ran, EEREAD's, 03h, or IDREAD's, 33h. In no other frame.
 abbrev pub soDriven : ℕ → List Piece → World → Bool
 soDriven part [] w = false
@@ -36,20 +32,26 @@ soDriven part (wait n ∷ ps) w = soDriven part ps (performed part Wait n w .aft
 -- R15. The promise.
 pub record LeftoverBits : Type 0 where
   -- an end that is done answers the first k bits of the exchange that it broke off, whatever byte that would have brought in
-  pub agrees : (part k v : ℕ) (w : World) → Shaped part w → v < 256 → performed part End k w .number ≡ 0 → Agrees part k v w
+  pub agrees : (part k v : ℕ) (w : World) → Shaped part w → v < 256 → performed part End k w .number ≡ 0 → InItsPlace part k v w
   -- and so after every list of acts from fresh: k bits now, and a whole byte in the run without the end
   pub inRuns :
       (part : ℕ) → isPart part ≡ true → (xs : List Input) (k v : ℕ) → v < 256 → performed part End k (reached part xs) .number ≡ 0
-      → Agrees part k v (reached part xs)
+      → InItsPlace part k v (reached part xs)
   -- it answers none exactly if k is 0 or SO is off, that is, the exchange would answer none
   pub none :
       (part k v : ℕ) (w : World) → v < 256 → performed part End k w .number ≡ 0
       → (performed part End k w .reply ≡ Off) ↔ ((k ≡ 0) ⊎ (performed part Byte v w .reply ≡ Off))
-  -- Of every frame that a select opens, whatever bytes and waits come in it: SO is off by what these were.
+  -- Of every frame that a select opens, whatever bytes and waits come in it: these tell whether SO is off.
   pub frameNone :
       (part k : ℕ) (ps : List Piece) (w : World) → performed part Select 0 w .number ≡ 0 → k < 8 → WholeBytes ps
       → (performed part End k (framed part ps w) .reply ≡ Off) ↔ ((k ≡ 0) ⊎ (soDriven part ps (performed part Select 0 w .after) ≡ false))
-  -- a number is below 2 to the power k
+  -- its number is below 2 to the power k
   pub below : (part k n : ℕ) (w : World) → Shaped part w → performed part End k w .reply ≡ Driven n → n < 2 ^ k
   -- an end that is refused answers none
   pub refused : (part k : ℕ) (w : World) → performed part End k w .number ≢ 0 → performed part End k w .reply ≡ Off
+  -- What else an end with leftover bits does: the frame is over, the lock may move (F33 to F36), and all else is as it was.
+  pub rest :
+      (part k : ℕ) (w : World) → 0 < k → performed part End k w .number ≡ 0
+      → performed part End k w .after ≡ moved w (withLock (withStage (w .device) Idle) (performed part End k w .after .device .guard .lock))
+  -- and no end has a count
+  pub uncounted : (part k : ℕ) (w : World) → performed part End k w .count ≡ 0
