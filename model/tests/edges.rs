@@ -154,14 +154,15 @@ fn shortest_period() {
 
 #[test]
 fn seven_leftover_bits() {
-    // Seven are accepted, nothing is written, and WEL stays; eight are number 3.
+    // Seven are accepted, nothing is written, and WEL stays; eight are number 3. A frame without
+    // a byte answers no bits.
     let mut rig = Rig::new(W2K);
     rig.enable();
     rig.frame_with(&[0x02, 0x00, 0x34], 7);
     assert_eq!((rig.device.countdown, rig.device.wel), (0, true));
     rig.select();
     rig.refused(Act::End, 8, 3);
-    rig.end(7);
+    assert_eq!(rig.end(7), None);
 }
 
 #[test]

@@ -306,8 +306,15 @@ impl HalfBytes {
         self.others.count("READ in a cycle", !status && d.countdown > 0);
         self.others.count("a lock that is closed", !status && d.lock == Lock::Open);
         self.others.count("a lock that stays open", status && d.lock == Lock::Open);
-        let changed = self.next.map(|byte| byte >> (8 - leftover)) != Some(bits);
-        self.others.count("bits that changed in the frame", changed);
+        self.changed(leftover as usize, before.clone().act(Act::Byte, 0).reply);
+    }
+
+    /// The next byte, as it is at the end, beside what it was when the last one had come.
+    fn changed(&mut self, leftover: usize, now: Option<u8>) {
+        let [was, now] = [self.next, now].map(|byte| format!("{:08b}", byte.unwrap()));
+        self.others.count("a next byte that changed in the frame", was != now);
+        let seen = was[..leftover] != now[..leftover];
+        self.others.count("a change among the bits over", seen);
     }
 
     fn rolled_over(&mut self, source: &str, before: &Rig) {

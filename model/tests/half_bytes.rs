@@ -559,15 +559,38 @@ fn only_the_frame_and_the_lock_move() {
 #[test]
 fn as_after_a_whole_byte() {
     // A read that is broken off and one that ends with a whole byte leave the same, but for the
-    // pointer, which the next frame sets anew.
+    // pointer, which the next frame sets anew. WEL is set and the lock open: WEL stays, and only
+    // SRREAD leaves the lock, so that an IDWRITE is carried after it (164 ticks).
     for leftover in 1..=7 {
-        for read in [&[0x03, 0x10, 0][..], &[0x13, 0x08, 0], &[0x33, 0x01, 0], &[0x05, 0]] {
+        for (read, lock, status, ticks) in [
+            (&[0x03, 0x10, 0][..], Lock::Closed, 0b0010, 500),
+            (&[0x13, 0x08, 0], Lock::Closed, 0b0010, 500),
+            (&[0x33, 0x01, 0], Lock::Closed, 0b0010, 500),
+            (&[0x05, 0], Lock::Open, 0b0011, 164),
+        ] {
             let mut whole = filled(W2K);
+            whole.enable();
+            whole.unlock();
+            assert_eq!((whole.device.wel, whole.device.lock), (true, Lock::Open));
             let mut broken = whole.clone();
             whole.frame(read);
             broken.frame_with(&read[..read.len() - 1], leftover);
-            let again = |rig: &mut Rig| (rig.frame(read), rig.status(), rig.wait(500));
-            assert_eq!(again(&mut whole), again(&mut broken), "{read:02X?}");
+            for rig in [&whole, &broken] {
+                assert_eq!((rig.device.wel, rig.device.lock), (true, lock), "{read:02X?}");
+            }
+            let mut moved = broken.clone();
+            moved.device.eeprom_pointer = whole.device.eeprom_pointer;
+            moved.device.clock_pointer = whole.device.clock_pointer;
+            moved.device.id_pointer = whole.device.id_pointer;
+            assert_eq!(moved, whole, "{read:02X?}");
+            let again = |rig: &mut Rig| {
+                let replies = rig.frame(read);
+                rig.frame(&[0x32, 0x02, 0x11]);
+                (replies, rig.status(), rig.wait(500))
+            };
+            let after = again(&mut whole);
+            assert_eq!((after.1, after.2), (status, ticks), "{read:02X?}");
+            assert_eq!(again(&mut broken), after, "{read:02X?}");
             assert_eq!(whole, broken, "{read:02X?}");
         }
     }

@@ -50,11 +50,12 @@ impl Rig {
         self.done(Act::Byte, byte.into()).reply
     }
 
-    /// Gives the bits that it answers: with no bits over, none.
+    /// Gives the bits that it answers: with no bits over, none. It never answers a count.
     pub fn end(&mut self, leftover: u64) -> Option<u8> {
-        let bits = self.done(Act::End, leftover).reply;
-        assert!(leftover > 0 || bits.is_none());
-        bits
+        let answer = self.done(Act::End, leftover);
+        assert_eq!(answer.count, 0, "{leftover} bits");
+        assert!(leftover > 0 || answer.reply.is_none());
+        answer.reply
     }
 
     pub fn wait(&mut self, ticks: u64) -> u64 {
