@@ -45,7 +45,7 @@ fn print_acts() -> bool {
     select  0              CS falls: a frame opens
     byte    0 to 255       eight bits in, eight bits out
     end     0 to 7         CS rises, after so many bits of a byte not finished;
-                           what SO had brought of that byte is its reply
+                           those that had left SO are its reply
     wait    0 to 16777216  so many ticks of 1/32768 s pass, or fewer: it stops
                            after the first that changes IRQ, WDO or WIP
     cut     0 to 255       power fails; of a page being written, the offsets
@@ -64,8 +64,8 @@ Each line gives one answer, written before the program waits for more input:
     no=R out=V irq=L wdo=L
 
     R  0: done; 1 to 7: refused, and nothing has changed
-    V  a byte's reply, the bits of an end's as a number, the ticks that a wait
-       used, how many bytes a cut stored; z: none
+    V  a byte's reply; an end's bits as a number, the first the most significant;
+       the ticks that a wait used; how many bytes a cut stored; z: none
     L  the level of the line after the act, 0 or 1
 ",
     )
