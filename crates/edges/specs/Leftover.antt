@@ -101,7 +101,7 @@ LeftoverShown =
     × (bits 1 (0x05 ∷ []) small ≡ zeros)
     × (bits 1 (0x05 ∷ []) cycling ≡ numbers 0 0 0 0 1 3 7)
     × (bits 1 (0x05 ∷ 0 ∷ []) cycling ≡ numbers 0 0 0 0 1 3 7)
-    -- A38, F3. SO is off: no byte, the code of a read alone, a code that is none
+    -- A38, F2, F3, F31. SO is off: no byte, the code of a read alone, a code that is none
     × (bits 1 [] small ≡ off)
     × (bits 1 (0x03 ∷ []) small ≡ off)
     × (bits 1 (0x13 ∷ []) small ≡ off)

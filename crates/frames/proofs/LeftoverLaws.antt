@@ -28,11 +28,11 @@ use Rattle.frames.specs.Leftover.{BrokenOff}
 use Rattle.frames.proofs.ReplyLaws.{ByteOrNone, driven-off}
 
 -- k bits make a number below 2 to the power k,
-pub top-below : (k b : ℕ) → k < 8 → b < 256 → topBits k b < 2 ^ k
+top-below : (k b : ℕ) → k < 8 → b < 256 → topBits k b < 2 ^ k
 top-below k b hk hb = let e : 8 ≡ k + (8 - k) = omega arith in shr-lt k (8 - k) (subst (λ (n : ℕ). b < 2 ^ n) e hb)
 
 -- and the eight of a byte are they and the rest
-pub top-first : (k b : ℕ) → k < 8 → msbFirst 8 b ≡ msbFirst k (topBits k b) ++ msbFirst (8 - k) b
+top-first : (k b : ℕ) → k < 8 → msbFirst 8 b ≡ msbFirst k (topBits k b) ++ msbFirst (8 - k) b
 top-first k b hk = let e : 8 ≡ k + (8 - k) = omega arith in ap (λ (n : ℕ). msbFirst n b) e ∙ msb-split k (8 - k) b
 
 -- The first bits of a reply are those of the exchange broken off.

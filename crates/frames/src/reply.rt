@@ -92,7 +92,7 @@ fn first_bits(k: u8, reply: Reply) -> Reply
     ensures { λ r. ⌜ r ≡ firstBits k reply ⌝ }
 {
     let Reply::Driven(b) = reply else {
-        return reply;
+        return reply; // Off
     };
     if k == 0 {
         return Reply::Off;

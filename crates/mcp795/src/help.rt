@@ -64,7 +64,7 @@ Each line gives one answer, written before the program waits for more input:
     no=R out=V irq=L wdo=L
 
     R  0: done; 1 to 7: refused, and nothing has changed
-    V  a byte's reply; an end's bits as a number, the first the most significant;
+    V  a byte's reply; an end's bits as a number, most significant first;
        the ticks that a wait used; how many bytes a cut stored; z: none
     L  the level of the line after the act, 0 or 1
 ",

@@ -50,7 +50,7 @@ frame-done part act arg v a p s f =
       select = ap (wrongSelect act) (f .chosen) ∙ s;
     }))
 
--- a byte moves the stage, a wait does not, and both leave a frame
+-- a byte moves the stage, a wait does not, and after both it is still a frame
 pub record Moved (part : ℕ) (x : World) (s : Stage) : Type 0 where
   pub frame : InFrame part x
   pub stage : stageOf x ≡ s

@@ -1,5 +1,6 @@
--- What an end with leftover bits answers, beside what a whole exchange in its place would: of every end on any chip, of every run, and of every
--- frame by the bytes that came in it.
+-- What an end with leftover bits answers, beside what a whole exchange in its place would: of every end on any chip, and of every run; and of every
+-- frame, by the bytes that came in it, whether it answers any. `Shaped` asks for memories and arrays of their lengths with bytes in them, which the types
+-- give in code.
 -- Assumes nothing.
 use Prim.Native.Nat.{ℕ, _^_, _<_}
 use mathlib.Core.Path.{_≡_}
@@ -41,7 +42,7 @@ pub record LeftoverBits : Type 0 where
   pub none :
       (part k v : ℕ) (w : World) → v < 256 → performed part End k w .number ≡ 0
       → (performed part End k w .reply ≡ Off) ↔ ((k ≡ 0) ⊎ (performed part Byte v w .reply ≡ Off))
-  -- Of every frame that a select opens, whatever bytes and waits come in it: these tell whether SO is off.
+  -- Of every frame that a select opens, whatever bytes and waits come in it: its end answers none exactly if k is 0 or, by these, SO is off.
   pub frameNone :
       (part k : ℕ) (ps : List Piece) (w : World) → performed part Select 0 w .number ≡ 0 → k < 8 → WholeBytes ps
       → (performed part End k (framed part ps w) .reply ≡ Off) ↔ ((k ≡ 0) ⊎ (soDriven part ps (performed part Select 0 w .after) ≡ false))

@@ -1,4 +1,4 @@
--- A frame as it comes: a select, then bytes, and waits before and between them; and our chip before its end. No rule stands here.
+-- A frame as it comes: a select, then bytes and waits in any order; and our chip before its end. No rule stands here.
 -- Assumes nothing.
 use Prim.Native.Nat.{ℕ, _<_}
 use mathlib.Core.Bool.{Bool, true, false}
