@@ -17,9 +17,9 @@ use Rattle.record.specs.World.{World}
 use Rattle.refusals.specs.Refusal.{wrongArg}
 use Rattle.refusals.proofs.TableLaws as table
 use Rattle.ticks.specs.Tick.{tick, lineChanged}
-use Rattle.frames.specs.Frame.{nextReply, leftoverReply}
-use Rattle.frames.proofs.ReplyLaws.{ByteOrNone, driven-off, reply-or-none, reply-byte}
-use Rattle.frames.proofs.LeftoverLaws.{first-byte}
+use Rattle.replies.specs.Reply.{nextReply, leftoverReply}
+use Rattle.replies.proofs.ReplyLaws.{ByteOrNone, driven-off, reply-or-none, reply-byte}
+use Rattle.replies.proofs.LeftoverLaws.{first-byte}
 use Rattle.power.proofs.PowerLaws.{cut-most}
 use Rattle.acts.specs.Act.{Outcome, accepted, refusalIn, performed}
 use Rattle.acts.proofs.OutcomeLaws.{never-seven}

@@ -7,10 +7,10 @@ use borrow.Author.Tests.{le-ltb}
 use Rattle.record.specs.declared.Act.the-variants.{Byte, End}
 use Rattle.record.specs.World.{World}
 use Rattle.refusals.proofs.TableLaws as table
-use Rattle.frames.specs.Frame.{nextReply, leftoverReply}
-use Rattle.frames.specs.Leftover.{BrokenOff}
-use Rattle.frames.proofs.ReplyLaws.{reply-or-none}
-use Rattle.frames.proofs.LeftoverLaws.{broken-off}
+use Rattle.replies.specs.Reply.{nextReply, leftoverReply}
+use Rattle.replies.specs.Leftover.{BrokenOff}
+use Rattle.replies.proofs.ReplyLaws.{reply-or-none}
+use Rattle.replies.proofs.LeftoverLaws.{broken-off}
 use Rattle.acts.specs.Act.{accepted, refusalIn}
 use Rattle.acts.proofs.ValidLaws.{Valid}
 

@@ -5,3 +5,4 @@ pub mod PageLaws
 pub mod OutcomeLaws
 pub mod BoundLaws
 pub mod LeftoverLaws
+pub mod DrivenLaws

@@ -16,7 +16,8 @@ use Rattle.record.specs.Part.{topOf, bootsOf}
 use Rattle.record.specs.World.{World, world, moved}
 use Rattle.refusals.specs.Refusal.{refusalOf}
 use Rattle.ticks.specs.Tick.{waited}
-use Rattle.frames.specs.Frame.{nextReply, leftoverReply, afterByte, afterSelect}
+use Rattle.replies.specs.Reply.{nextReply, leftoverReply}
+use Rattle.frames.specs.Frame.{afterByte, afterSelect}
 use Rattle.ends.specs.End.{afterEnd}
 use Rattle.power.specs.Power.{cutCount, cutWorld, afterUp}
 use Rattle.acts.specs.declared.Answer.{Answer}

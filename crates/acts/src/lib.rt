@@ -103,12 +103,12 @@ fn accepted_act(
     match act {
         Act::Select => silent(0, 0, frames::byte::after_select(d)),
         Act::Byte => {
-            let reply = frames::reply::next_reply(eeprom, id, d);
+            let reply = replies::next_reply(eeprom, id, d);
             let device = frames::byte::after_byte(boots, top, v, d);
             replied(reply, device)
         }
         Act::End => {
-            let reply = frames::reply::leftover_reply(v, eeprom, id, d);
+            let reply = replies::leftover_reply(v, eeprom, id, d);
             let device = ends::end::after_end(top, v, d);
             replied(reply, device)
         }

@@ -33,7 +33,8 @@ use Rattle.ticks.specs.Oscillator.{oscillatorTick}
 use Rattle.ticks.specs.Watchdog.{watchdogTick}
 use Rattle.ticks.specs.Clock.{calendarTick}
 use Rattle.ticks.specs.Tick.{cycleDevice, cycleTick, clockwork, tick}
-use Rattle.frames.specs.Frame.{statusByte, nextReply, leftoverReply, afterByte, afterSelect}
+use Rattle.replies.specs.Reply.{statusByte, nextReply, leftoverReply}
+use Rattle.frames.specs.Frame.{afterByte, afterSelect}
 use Rattle.ends.specs.Write.{carried, cycleAfter, welAfter}
 use Rattle.ends.specs.End.{afterEnd}
 use Rattle.power.specs.Power.{afterCut, cutCount, cutWorld, afterUp}

@@ -23,8 +23,9 @@ use Rattle.refusals.specs.Range.{outOfRange, clockOut, frameOut, cycleOut, powe
 use Rattle.refusals.specs.Refusal.{refusalOf}
 use Rattle.registers.specs.Read.{readClock}
 use Rattle.registers.specs.Write.{writeClock, afterWrite}
-use Rattle.frames.specs.Frame.{statusByte, nextReply, leftoverReply, afterByte, afterSelect}
-use Rattle.frames.specs.Shown.{numbers}
+use Rattle.replies.specs.Reply.{statusByte, nextReply, leftoverReply}
+use Rattle.frames.specs.Frame.{afterByte, afterSelect}
+use Rattle.replies.specs.Shown.{numbers}
 use Rattle.ends.specs.Write.{carried, cycleAfter, welAfter}
 use Rattle.ends.specs.End.{afterEnd}
 use Rattle.power.specs.Power.{afterCut, cutCount, cutWorld}

@@ -10,15 +10,14 @@ use borrow.Author.Tests.{ltb-true, lt-ltb}
 use lib.Bits.{and-le-r, or-lt}
 use lib.Dec.{ltb}
 use lib.ListN.{length, getD, set, length-set}
-use Rattle.base.specs.Words.{every, flag}
-use Rattle.base.proofs.Tests.{pick-case, pick-when, true-false, flag-below}
+use Rattle.base.specs.Words.{every}
+use Rattle.base.proofs.Tests.{pick-case, pick-when, true-false}
 use Rattle.base.proofs.Every.{same-below, bound-below}
 use Rattle.record.specs.declared.Device.{Device}
 use Rattle.record.specs.declared.Load.{Load}
 use Rattle.record.specs.declared.EepromAddress.{EepromAddress}
 use Rattle.record.specs.declared.ClockAddress.{ClockAddress}
 use Rattle.record.specs.declared.IdAddress.{IdAddress}
-use Rattle.record.specs.declared.Protection.{Protection}
 use Rattle.record.specs.declared.Code.{Code}
 use Rattle.record.specs.declared.Code.the-variants.{Eeread, Eewrite, Eewrdi, Eewren, Srread, Srwrite, Read, Write, Unlock, Idwrite, Idread, Clrwdt, Clrram, Other}
 use Rattle.record.specs.declared.Place.{Place}
@@ -29,12 +28,10 @@ use Rattle.record.specs.declared.Stage.{Stage}
 use Rattle.record.specs.declared.Stage.the-variants.{Idle, Opened, Unheard, Instruction, Reading, Writing, Second, Over}
 use Rattle.record.specs.Address.{takenEeprom, takenId, offsetOf}
 use Rattle.record.specs.Codes.{codeOf, heardUnderWip, writesPage}
-use Rattle.record.specs.Numbers.{protectionNumber}
 use Rattle.record.specs.Part.{topOf, sizeOf, bootsOf}
 use Rattle.record.specs.Setters.{withStage, withLoad}
 use Rattle.record.specs.Stages.{selected, heard, readingCode, writingCode, secondCode, overCode, codeAt, foreignToWip, framePlace}
 use Rattle.record.specs.World.{Bytes, Sized}
-use Rattle.record.proofs.NumberLaws.{protection-below}
 use Rattle.record.proofs.StageLaws.{heard-selected}
 use Rattle.record.proofs.WorldLaws.{sized-by, set-bytes}
 use Rattle.refusals.specs.InRange.{PlaceRange, InRange}
@@ -43,10 +40,6 @@ use Rattle.registers.specs.Write.{writeClock}
 use Rattle.registers.proofs.WriteLaws.{write-beside, write-regs-length, write-sram, write-in-range}
 use Rattle.ticks.specs.Lines.{wip}
 use Rattle.frames.specs.Frame.{secondStage, readOn, writtenOn, thirdByte, stageAfter, emptied, loadedWith, writingLoad, loadAfter, writtenPlace, writtenAt, afterByte, afterSelect}
-
--- the upper four bits of STATUS are 0
-pub status-fits : (a b : Bool) (p : Protection) → flag a + flag b * 2 + protectionNumber p * 4 < 16
-status-fits a b p = omega (arith, flag-below a, flag-below b, protection-below p)
 
 -- The bit of each offset: the table of the code is the power of the definition.
 abbrev offsets : List ℕ

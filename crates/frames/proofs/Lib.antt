@@ -1,5 +1,3 @@
 pub mod FrameLaws
 pub mod StampLaws
-pub mod ReplyLaws
 pub mod AloneLaws
-pub mod LeftoverLaws

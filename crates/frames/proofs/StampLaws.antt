@@ -1,32 +1,24 @@
--- A byte of a READ answers a time-stamp as it is stored. What a byte does to the time-stamps and to VBAT: in a WRITE that stands at 04h a 0
--- for VBAT clears all three and a 1 leaves VBAT what it was; any other byte leaves all three.
+-- What a byte does to the time-stamps and to VBAT: in a WRITE that stands at 04h a 0 for VBAT clears all three and a 1 leaves VBAT what it was; any
+-- other byte leaves all three.
 -- Assumes nothing.
 use mathlib.Core.Path.{_≡_, refl, ap, _∙_}
 use mathlib.Core.Bool.{Bool, true, false}
 use mathlib.Core.Logic.{_≢_}
-use mathlib.Core.List.{List}
-use Prim.Native.Nat.{ℕ, _%_, _<_, _≤_}
+use Prim.Native.Nat.{ℕ, _%_}
 use lib.ListN.{length, getD}
 use Rattle.base.specs.Words.{bit}
 use Rattle.record.specs.declared.Device.{Device}
 use Rattle.record.specs.declared.ClockAddress.{ClockAddress}
 use Rattle.record.specs.declared.Place.the-variants.{ClockAt}
 use Rattle.record.specs.declared.Stage.{Stage}
-use Rattle.record.specs.declared.Reply.the-variants.{Driven}
-use Rattle.record.specs.declared.Stage.the-variants.{Reading, Writing}
-use Rattle.record.specs.Registers.{vbat, dayAt, powerDownAt}
+use Rattle.record.specs.declared.Stage.the-variants.{Writing}
+use Rattle.record.specs.Registers.{vbat, dayAt}
 use Rattle.record.specs.Stamps.{toDay, NoStamps, SameStamps}
 use Rattle.refusals.proofs.KeepLaws.{AllInside}
 use Rattle.registers.specs.Write.{writeClock}
-use Rattle.registers.proofs.StampLaws.{read-stamp, write-stores, write-clears, write-leaves-vbat, write-other-vbat, write-stamps}
-use Rattle.frames.specs.Frame.{replyAt, nextReply, writtenAt, afterByte}
+use Rattle.registers.proofs.StampLaws.{write-stores, write-clears, write-leaves-vbat, write-other-vbat, write-stamps}
+use Rattle.frames.specs.Frame.{writtenAt, afterByte}
 use Rattle.frames.proofs.FrameLaws.{written-when}
-
-pub stamp-reply :
-    (ee id : List ℕ) (d : Device) (a : ClockAddress) → d .frame .stage ≡ Reading (ClockAt a) → powerDownAt ≤ a .0 → a .0 < 32
-    → nextReply ee id d ≡ Driven (getD (d .regs) (a .0) 0)
-unfolding nextReply
-stamp-reply ee id d a e l h = ap (replyAt ee id d) e ∙ ap Driven (read-stamp d a l h)
 
 -- a stage is a WRITE at 04h, by its address
 at-day : (s : Stage) (a : ClockAddress) → s ≡ Writing (ClockAt a) → a .0 ≡ dayAt → s ≡ toDay

@@ -1,3 +1,2 @@
 // Select and the bytes of a frame, as functions of the chip's record.
-pub mod reply; // reply.rt: what the next whole exchange answers, and its first bits
 pub mod byte; // byte.rt: where a byte takes the frame, and what it does

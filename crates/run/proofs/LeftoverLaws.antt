@@ -20,14 +20,16 @@ use Rattle.record.specs.Part.{topOf}
 use Rattle.record.specs.Setters.{withStage, withLock}
 use Rattle.record.specs.World.{World, moved, Shaped}
 use Rattle.ticks.specs.Lines.{wip}
-use Rattle.frames.specs.Frame.{firstStage, stageAfter, nextReply, leftoverReply}
-use Rattle.frames.specs.Leftover.{BrokenOff}
+use Rattle.replies.specs.Reply.{nextReply, leftoverReply}
+use Rattle.frames.specs.Frame.{firstStage, stageAfter}
+use Rattle.replies.specs.Leftover.{BrokenOff}
 use Rattle.frames.proofs.AloneLaws.{stage-begun, first-begun}
-use Rattle.frames.proofs.ReplyLaws.{driven-off}
-use Rattle.frames.proofs.LeftoverLaws.{isDriven, off-undriven, first-none, driving, next-driven, drivingOn, goes-on, first-drives, first-goes-on}
+use Rattle.replies.proofs.ReplyLaws.{driven-off, isDriven, off-undriven, driving, next-driven}
+use Rattle.replies.proofs.LeftoverLaws.{first-none}
 use Rattle.ends.proofs.LeftoverLaws.{rest-stays}
 use Rattle.acts.specs.Act.{Outcome, accepted, refusalIn, performed}
 use Rattle.acts.proofs.AcceptedLaws.{few-bits}
+use Rattle.acts.proofs.DrivenLaws.{drivingOn, goes-on, first-drives, first-goes-on}
 use Rattle.acts.proofs.LeftoverLaws.{byte-passes, end-broken-off}
 use Rattle.acts.proofs.OutcomeLaws.{by-acceptance, done-passed, done-as, refused-same}
 use Rattle.acts.proofs.SuitedLaws.{passed-range}

@@ -36,7 +36,8 @@ use Rattle.ticks.proofs.StampLaws.{StampsStay, stay-then, wait-stamps}
 use Rattle.ticks.proofs.WaitLaws.{wait-device, wait-spent}
 use Rattle.frames.specs.Frame.{afterSelect, afterByte}
 use Rattle.frames.proofs.FrameLaws.{written-beside}
-use Rattle.frames.proofs.StampLaws.{stamp-reply, byte-stores, byte-clears, byte-leaves-vbat, byte-other-vbat, byte-stamps}
+use Rattle.replies.proofs.ReplyLaws.{stamp-reply}
+use Rattle.frames.proofs.StampLaws.{byte-stores, byte-clears, byte-leaves-vbat, byte-other-vbat, byte-stamps}
 use Rattle.ends.specs.End.{afterEnd}
 use Rattle.power.specs.Power.{afterCut, cutWorld, afterUp}
 use Rattle.power.proofs.PowerLaws.{cut-device, cut-beside}

@@ -14,7 +14,7 @@ use Rattle.record.specs.declared.Stage.the-variants.{Idle}
 use Rattle.record.specs.Part.{isPart}
 use Rattle.record.specs.Setters.{withStage, withLock}
 use Rattle.record.specs.World.{World, moved, Shaped}
-use Rattle.frames.specs.Leftover.{BrokenOff}
+use Rattle.replies.specs.Leftover.{BrokenOff}
 use Rattle.acts.specs.Act.{performed}
 use Rattle.run.specs.Claim.{Input, reached}
 use Rattle.run.specs.Pieces.{Piece, byte, wait, WholeBytes, someByte, framed}

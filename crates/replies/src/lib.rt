@@ -1,4 +1,4 @@
-// What the next whole exchange answers, and its first bits.
+// What the next whole exchange of a frame answers, and its first bits.
 use record::Code;
 use record::Device;
 use record::EepromAddress;
@@ -11,7 +11,7 @@ ghost use Prim.Native.Nat.{_<_};
 ghost use lib.ListN.{length, getD};
 ghost use Rattle.base.specs.Words.{flag};
 ghost use Rattle.record.specs.Stages.{framePlace, eepromPointer, idPointer};
-ghost use Rattle.frames.specs.Frame.{statusByte, instructionReply, readingReply, nextReply, firstBits, leftoverReply};
+ghost use Rattle.replies.specs.Reply.{statusByte, instructionReply, readingReply, nextReply, firstBits, leftoverReply};
 
 fn one_if(test: bool) -> u8
     ensures { λ r. ⌜ r ≡ flag test ⌝ }

@@ -1,11 +1,11 @@
--- `frames::reply::status`: a sum of four bits, so that none of its steps wraps (`status-fits`).
+-- `replies::status`: a sum of four bits, so that none of its steps wraps (`status-fits`).
 -- Assumes nothing.
 use native.Mathlib.Omega.{arith}
-use Rattle.frames.specs.Frame.{statusByte}
-use Rattle.frames.proofs.FrameLaws.{status-fits}
+use Rattle.replies.specs.Reply.{statusByte}
+use Rattle.replies.proofs.ReplyLaws.{status-fits}
 use borrow.Author.Needs.{needs}
-use Rattle.frames.proofs.reply.status.Statement.{statement}
-use Rattle.frames.proofs.reply.status.Tie as tie
+use Rattle.replies.proofs.status.Statement.{statement}
+use Rattle.replies.proofs.status.Tie as tie
 
 mul-result : tie.Need-mul-result
 unfolding statusByte

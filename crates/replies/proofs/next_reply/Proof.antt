@@ -1,9 +1,9 @@
--- `frames::reply::next_reply`: by the stage; the pointer that it asks for is its stage's.
+-- `replies::next_reply`: by the stage; the pointer that it asks for is its stage's.
 -- Assumes nothing.
-use Rattle.frames.specs.Frame.{nextReply}
+use Rattle.replies.specs.Reply.{nextReply}
 use borrow.Author.Needs.{needs}
-use Rattle.frames.proofs.reply.next_reply.Statement.{statement}
-use Rattle.frames.proofs.reply.next_reply.Tie as tie
+use Rattle.replies.proofs.next_reply.Statement.{statement}
+use Rattle.replies.proofs.next_reply.Tie as tie
 
 reading-reply-requires : tie.Need-reading-reply-requires
 unfolding nextReply

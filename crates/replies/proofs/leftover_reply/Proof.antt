@@ -1,9 +1,9 @@
--- `frames::reply::leftover_reply`: the first bits of what the next whole exchange answers.
+-- `replies::leftover_reply`: the first bits of what the next whole exchange answers.
 -- Assumes nothing.
-use Rattle.frames.specs.Frame.{leftoverReply}
+use Rattle.replies.specs.Reply.{leftoverReply}
 use borrow.Author.Needs.{needs}
-use Rattle.frames.proofs.reply.leftover_reply.Statement.{statement}
-use Rattle.frames.proofs.reply.leftover_reply.Tie as tie
+use Rattle.replies.proofs.leftover_reply.Statement.{statement}
+use Rattle.replies.proofs.leftover_reply.Tie as tie
 
 returns : tie.Need-returns
 unfolding leftoverReply

@@ -1,9 +1,9 @@
--- `frames::reply::first_bits`: by the reply's case and the test of k; the shift is a division.
+-- `replies::first_bits`: by the reply's case and the test of k; the shift is a division.
 -- Assumes nothing.
 use borrow.Author.Needs.{needs}
 use borrow.Author.Tests.{eq-eqb, ne-eqb}
-use Rattle.frames.proofs.reply.first_bits.Statement.{statement}
-use Rattle.frames.proofs.reply.first_bits.Tie as tie
+use Rattle.replies.proofs.first_bits.Statement.{statement}
+use Rattle.replies.proofs.first_bits.Tie as tie
 
 returns-2 : tie.Need-returns-2
 returns-2 c = simp (c .before .before .reply .given .1, eq-eqb _ 0 (c .if1 .taken))

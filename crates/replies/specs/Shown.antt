@@ -7,7 +7,7 @@ use mathlib.Core.List.{List, [], _∷_}
 use Rattle.base.specs.Words.{msbFirst}
 use Rattle.record.specs.declared.Reply.{Reply}
 use Rattle.record.specs.declared.Reply.the-variants.{Driven, Off}
-use Rattle.frames.specs.Frame.{firstBits}
+use Rattle.replies.specs.Reply.{firstBits}
 
 -- what ends with 0 to 7 leftover bits answer of a reply
 abbrev pub firstBitsOf : Reply → List Reply

@@ -1,8 +1,8 @@
--- `frames::reply::instruction_reply`: by the code's test: STATUS, or SO off.
+-- `replies::instruction_reply`: by the code's test: STATUS, or SO off.
 -- Assumes nothing.
 use borrow.Author.Needs.{needs}
-use Rattle.frames.proofs.reply.instruction_reply.Statement.{statement}
-use Rattle.frames.proofs.reply.instruction_reply.Tie as tie
+use Rattle.replies.proofs.instruction_reply.Statement.{statement}
+use Rattle.replies.proofs.instruction_reply.Tie as tie
 
 returns : tie.Need-returns
 returns c = simp (c .status .ensures, simp (c .before .before .is .ensures) at (c .before .if1 .taken))

@@ -1,8 +1,8 @@
--- `frames::reply::reading_reply`: by the place; the pointer that it asks for is its place's.
+-- `replies::reading_reply`: by the place; the pointer that it asks for is its place's.
 -- Assumes nothing.
 use borrow.Author.Needs.{needs}
-use Rattle.frames.proofs.reply.reading_reply.Statement.{statement}
-use Rattle.frames.proofs.reply.reading_reply.Tie as tie
+use Rattle.replies.proofs.reading_reply.Statement.{statement}
+use Rattle.replies.proofs.reading_reply.Tie as tie
 
 eeprom-byte-requires : tie.Need-eeprom-byte-requires
 eeprom-byte-requires c κs = rw (c .before .place .given .1) at (c .before .before .before .before .before .pre .0)
