@@ -1,7 +1,7 @@
 -- What select and a byte keep: a record in range, the lengths of its lists, the loaded offsets and every byte a byte; and the bit of each offset.
 -- Not what a frame answers.
 -- Assumes nothing.
-use Prim.Native.Nat.{ℕ, _+_, _*_, _^_, _<_}
+use Prim.Native.Nat.{ℕ, _+_, _^_, _<_}
 use native.Mathlib.Omega.{arith}
 use mathlib.Core.Path.{_≡_, refl, sym, subst, _∙_}
 use mathlib.Core.Bool.{Bool, true, false, not, _&&_, false≢true}
