@@ -1,7 +1,9 @@
-// Links the proved library that `rt staticlib run` writes.
+// Links the proved libraries that `rt staticlib` writes of run and export.
 fn main() {
     let root = std::path::Path::new(&std::env::var("CARGO_MANIFEST_DIR").unwrap()).join("../target/staticlib");
     println!("cargo:rustc-link-search=native={}", root.display());
-    println!("cargo:rustc-link-lib=static=run");
-    println!("cargo:rerun-if-changed={}", root.join("librun.a").display());
+    for name in ["run", "export"] {
+        println!("cargo:rustc-link-lib=static={name}");
+        println!("cargo:rerun-if-changed={}", root.join(format!("lib{name}.a")).display());
+    }
 }

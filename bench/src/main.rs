@@ -1,5 +1,6 @@
 //! The proved chip beside the model: the same acts through both, answers compared, times as ratios.
 use model::chip::{perform, Device};
+use model::generate::{chip, text_of, Random};
 use model::Act;
 use std::time::{Duration, Instant};
 
@@ -19,6 +20,18 @@ extern "C" {
         eeprom_len: usize,
         id: *mut u8,
         id_len: usize,
+    ) -> u64;
+
+    // crates/export: a saved text loaded and saved again.
+    fn tekuravy_resave(
+        text: *const u8,
+        text_len: usize,
+        eeprom: *mut u8,
+        eeprom_len: usize,
+        id: *mut u8,
+        id_len: usize,
+        into: *mut u8,
+        into_len: usize,
     ) -> u64;
 }
 
@@ -103,6 +116,63 @@ fn compare(name: &str, per: usize, part: u64, acts: &[(u8, u64)]) {
     println!("{name}: proved {:.2} ns, model {:.2} ns, ratio {:.3}", ns(best[0]), ns(best[1]), best[0].as_secs_f64() / best[1].as_secs_f64());
 }
 
+// The proved copy loads a text for an EEPROM of so many bytes, and saves it again into the room lent.
+fn resaved(text: &[u8], size: usize, into: &mut [u8]) -> usize {
+    let mut eeprom = [0u8; 256];
+    let mut id = [0u8; 16];
+    unsafe {
+        tekuravy_resave(
+            text.as_ptr(),
+            text.len(),
+            eeprom.as_mut_ptr(),
+            size,
+            id.as_mut_ptr(),
+            id.len(),
+            into.as_mut_ptr(),
+            into.len(),
+        ) as usize
+    }
+}
+
+// The best of five times of a thousand turns, for one turn.
+fn timed(mut turn: impl FnMut()) -> Duration {
+    let mut best = Duration::MAX;
+    for _ in 0..5 {
+        let start = Instant::now();
+        for _ in 0..1000 {
+            turn();
+        }
+        best = best.min(start.elapsed());
+    }
+    best / 1000
+}
+
+// Load and save of a chip of 2 Kbit. A load alone is one that is refused last, by 4.
+fn saved_chip() {
+    let name = "load and save of a chip of 2 Kbit";
+    if std::env::args().nth(1).is_some_and(|word| !name.contains(&word)) {
+        return;
+    }
+    let mut random = Random::new(4);
+    let chip = std::iter::repeat_with(|| chip(&mut random)).find(|c| c.part % 2 == 0).unwrap();
+    let text = text_of(&chip);
+    let mut into = vec![0u8; 8192];
+    assert_eq!(resaved(&text, 256, &mut into), text.len(), "{name}: the copies differ");
+    assert!(into.starts_with(&text), "{name}: the copies differ");
+    let load = timed(|| assert_eq!(resaved(&text, 128, &mut into), 0));
+    let both = timed(|| assert_eq!(resaved(&text, 256, &mut into), text.len()));
+    let model_load = timed(|| assert!(model::saved::load(&text, 128, 16).is_err()));
+    let model_both = timed(|| {
+        let c = model::saved::load(&text, 256, 16).unwrap();
+        assert_eq!(model::saved::save(c.part, &c.device, &c.eeprom, &c.id, 8192).unwrap().len(), text.len());
+    });
+    let line = |what: &str, p: Duration, m: Duration| {
+        println!("{what} of a chip of 2 Kbit: proved {:.2} us, model {:.2} us, ratio {:.3}", p.as_secs_f64() * 1e6, m.as_secs_f64() * 1e6, p.as_secs_f64() / m.as_secs_f64())
+    };
+    line("load", load, model_load);
+    line("save", both - load, model_both - model_load);
+}
+
 fn frame(bytes: &[u64]) -> Vec<(u8, u64)> {
     let mut acts = vec![(0, 0)];
     acts.extend(bytes.iter().map(|b| (1, *b)));
@@ -132,4 +202,5 @@ fn main() {
     }
     let n = writes.len();
     compare("an act of enabled page writes", n, 2, &writes);
+    saved_chip();
 }

@@ -4,7 +4,7 @@
 use std::ops::Range;
 
 use crate::calendar::{self, Reach};
-use crate::Act;
+use crate::{Act, ERASED};
 
 // Instruction codes (000, table 3-1).
 pub const EEREAD: u8 = 0x03;
@@ -105,14 +105,57 @@ pub enum Lock {
     Open,
 }
 
-/// How many whole bytes a frame has had; more than two are alike.
+/// 000, table 3-1: all instruction codes.
+pub const CODES: [u8; 13] = [
+    EEREAD, EEWRITE, EEWRDI, EEWREN, SRREAD, SRWRITE, READ, WRITE, UNLOCK, IDWRITE, IDREAD, CLRWDT,
+    CLRRAM,
+];
+
+/// The code of a heard frame. Bytes that are no code are all alike.
 #[derive(Clone, Copy, Debug, PartialEq, Eq)]
-pub enum Bytes {
-    One,
-    Two,
-    More,
+pub struct Code(u8);
+
+impl Code {
+    pub fn of(byte: u8) -> Code {
+        Code(if CODES.contains(&byte) { byte } else { 0 })
+    }
+
+    /// The byte of table 3-1; 0 if the code is none of it.
+    pub fn byte(self) -> u8 {
+        self.0
+    }
 }
 
+/// Where a pointer stands.
+#[derive(Clone, Copy, Debug, PartialEq, Eq)]
+pub enum Place {
+    Eeprom(u64),
+    Clock(u8),
+    Id(u64),
+}
+
+/// Two whole bytes of a code that has no address, and the second where it matters.
+#[derive(Clone, Copy, Debug, PartialEq, Eq)]
+pub enum Two {
+    Srwrite(u8),
+    Unlock(u8),
+    Clrwdt,
+    Clrram,
+}
+
+/// The codes that a further byte spoils: the third of the first four, the second of the others.
+#[derive(Clone, Copy, Debug, PartialEq, Eq)]
+pub enum TooLong {
+    Srwrite,
+    Unlock,
+    Clrwdt,
+    Clrram,
+    Eewren,
+    Eewrdi,
+}
+
+/// How far a frame has come. No two of these mean the same: bytes that change nothing, as all
+/// after SRREAD or an unknown code, leave it where it was.
 #[derive(Clone, Copy, Debug, PartialEq, Eq)]
 pub enum Frame {
     /// Not selected.
@@ -121,15 +164,43 @@ pub enum Frame {
     Empty,
     /// The first byte came while WIP was set and is not heard then.
     Unheard,
-    /// `second` is the second byte of UNLOCK and SRWRITE, else 0.
-    Heard { code: u8, bytes: Bytes, second: u8 },
+    /// The code, and nothing after it that matters.
+    Heard(Code),
+    /// EEREAD, READ or IDREAD with its address, and the pointer since then.
+    Reading(Place),
+    /// EEWRITE, WRITE or IDWRITE with its address; only the clock's pointer moves.
+    Writing(Place),
+    Second(Two),
+    Over(TooLong),
 }
 
-/// What a write cycle writes. EEPROM and ID pages are those in which the pointers lie.
+impl Frame {
+    /// The code of a heard frame, 0 if it is unknown.
+    pub fn code(self) -> Option<u8> {
+        Some(match self {
+            Frame::Idle | Frame::Empty | Frame::Unheard => return None,
+            Frame::Heard(code) => code.byte(),
+            Frame::Reading(Place::Eeprom(_)) => EEREAD,
+            Frame::Reading(Place::Clock(_)) => READ,
+            Frame::Reading(Place::Id(_)) => IDREAD,
+            Frame::Writing(Place::Eeprom(_)) => EEWRITE,
+            Frame::Writing(Place::Clock(_)) => WRITE,
+            Frame::Writing(Place::Id(_)) => IDWRITE,
+            Frame::Second(Two::Srwrite(_)) | Frame::Over(TooLong::Srwrite) => SRWRITE,
+            Frame::Second(Two::Unlock(_)) | Frame::Over(TooLong::Unlock) => UNLOCK,
+            Frame::Second(Two::Clrwdt) | Frame::Over(TooLong::Clrwdt) => CLRWDT,
+            Frame::Second(Two::Clrram) | Frame::Over(TooLong::Clrram) => CLRRAM,
+            Frame::Over(TooLong::Eewren) => EEWREN,
+            Frame::Over(TooLong::Eewrdi) => EEWRDI,
+        })
+    }
+}
+
+/// What a write cycle writes: the page in which the pointer lies, or STATUS.
 #[derive(Clone, Copy, Debug, PartialEq, Eq)]
 pub enum Target {
-    Eeprom,
-    Id,
+    Eeprom(u64),
+    Id(u64),
     Status(Protection),
 }
 
@@ -139,13 +210,12 @@ pub struct Device {
     pub registers: [u8; 32],
     pub sram: [u8; 64],
     pub frame: Frame,
-    pub eeprom_pointer: u64,
-    pub id_pointer: u64,
-    pub clock_pointer: u8,
-    /// The page load: the offset that the next data byte goes to, and the bytes that came. A
-    /// running cycle reads the load and the pointers; no frame that is heard then moves them.
+    /// The page load: the offset that the next data byte goes to, a bit for each offset that got
+    /// one, and the bytes. A running cycle reads the load; no frame that is heard then moves it.
+    /// An end and a cut leave it, and the target; the address of the next write empties it.
     pub offset: u64,
-    pub loaded: [Option<u8>; 8],
+    pub loaded: u8,
+    pub load: [u8; 8],
     pub target: Target,
     /// Ticks left of the write cycle; 0 is no cycle.
     pub countdown: u64,
@@ -188,6 +258,31 @@ pub fn is_b_part(part: u64) -> bool {
     part >= 3
 }
 
+/// A part with its record and both memories.
+#[derive(Clone, Debug, PartialEq, Eq)]
+pub struct Chip {
+    pub part: u64,
+    pub device: Device,
+    pub eeprom: Vec<u8>,
+    pub id: [u8; ID_LENGTH],
+}
+
+impl Chip {
+    /// 01 Acts: a fresh chip, its memories erased.
+    pub fn fresh(part: u64) -> Chip {
+        Chip {
+            part,
+            device: Device::fresh(),
+            eeprom: vec![ERASED; eeprom_length(part)],
+            id: [ERASED; ID_LENGTH],
+        }
+    }
+
+    pub fn perform(&mut self, act: Act, number: u64) -> Answer {
+        perform(self.part, act, number, &mut self.device, &mut self.eeprom, &mut self.id)
+    }
+}
+
 impl Device {
     pub fn fresh() -> Device {
         Device {
@@ -195,12 +290,10 @@ impl Device {
             registers: FRESH_REGISTERS,
             sram: [0; 64],
             frame: Frame::Idle,
-            eeprom_pointer: 0,
-            id_pointer: 0,
-            clock_pointer: 0,
             offset: 0,
-            loaded: [None; 8],
-            target: Target::Eeprom,
+            loaded: 0,
+            load: [0; 8],
+            target: Target::Eeprom(0),
             countdown: 0,
             wel: false,
             protection: Protection::Nothing,
@@ -282,7 +375,7 @@ pub fn heard_under_wip(code: u8) -> bool {
 }
 
 /// The bits that a register may hold: those that WRITE can change; of a time-stamp all eight.
-fn holds(register: usize) -> u8 {
+pub fn holds(register: usize) -> u8 {
     if STAMPS.contains(&register) {
         0xFF
     } else {
@@ -290,11 +383,19 @@ fn holds(register: usize) -> u8 {
     }
 }
 
-/// Number 6, row by row.
+/// Number 6, row by row. 01 Acts: every pointer is judged, that of a cycle which does not run too.
 pub fn out_of_range(part: u64, device: &Device) -> bool {
-    let deaf_frame_open = match device.frame {
-        Frame::Heard { code, .. } => !heard_under_wip(code),
+    let deaf_frame_open = device.frame.code().is_some_and(|code| !heard_under_wip(code));
+    let eeprom_end = eeprom_length(part) as u64;
+    let frame_strays = match device.frame {
+        Frame::Reading(Place::Eeprom(p)) | Frame::Writing(Place::Eeprom(p)) => p >= eeprom_end,
+        Frame::Reading(Place::Id(p)) | Frame::Writing(Place::Id(p)) => p > 15,
         _ => false,
+    };
+    let target_strays = match device.target {
+        Target::Eeprom(p) => p >= eeprom_end,
+        Target::Id(p) => p > 15,
+        Target::Status(_) => false,
     };
     device.divider > 32_767
         || device.start_up > 32
@@ -303,8 +404,8 @@ pub fn out_of_range(part: u64, device: &Device) -> bool {
         || device.delay > 2_097_152
         || device.watchdog >= device.period()
         || device.offset > 7
-        || device.id_pointer > 15
-        || device.eeprom_pointer >= eeprom_length(part) as u64
+        || frame_strays
+        || target_strays
         || (0..32).any(|r| device.registers[r] & !holds(r) != 0)
         || device.start_up > 0 && !is_b_part(part) && !device.st()
         || !device.power && (device.selected() || device.wip())
@@ -323,16 +424,30 @@ pub fn number_too_large(act: Act, number: u64) -> bool {
     number > limit
 }
 
-/// 01 Acts: the first row of the table that holds, in its order (7 is the tape's). 0 is done.
-pub fn refusal(part: u64, act: Act, number: u64, device: &Device, eeprom: &[u8], id: &[u8]) -> u64 {
+/// 01 Chip: whether memories of these lengths are the part's.
+pub fn lengths_fit(part: u64, eeprom: usize, id: usize) -> bool {
+    eeprom == eeprom_length(part) && id == ID_LENGTH
+}
+
+/// The rows that ask for no act: 3 for the part, 4, 6. 0 is none of them.
+pub fn setup_refusal(part: u64, device: &Device, eeprom: &[u8], id: &[u8]) -> u64 {
     if !part_exists(part) {
         return 3;
     }
-    if eeprom.len() != eeprom_length(part) || id.len() != ID_LENGTH {
+    if !lengths_fit(part, eeprom.len(), id.len()) {
         return 4;
     }
     if out_of_range(part, device) {
         return 6;
+    }
+    0
+}
+
+/// 01 Acts: the first row of the table that holds, in its order (7 is the tape's). 0 is done.
+pub fn refusal(part: u64, act: Act, number: u64, device: &Device, eeprom: &[u8], id: &[u8]) -> u64 {
+    let setup = setup_refusal(part, device, eeprom, id);
+    if setup != 0 {
+        return setup;
     }
     if number_too_large(act, number) {
         return 3;
@@ -429,13 +544,11 @@ pub fn next_clock_address(address: u8) -> u8 {
 /// SO is driven right after the code of SRREAD, and after the address of the other reads. Moves
 /// nothing.
 fn next_reply(device: &Device, eeprom: &[u8], id: &[u8]) -> Option<u8> {
-    let Frame::Heard { code, bytes, .. } = device.frame else { return None };
-    let after_the_address = bytes != Bytes::One;
-    match code {
-        SRREAD => Some(device.status()),
-        EEREAD if after_the_address => Some(eeprom[device.eeprom_pointer as usize]),
-        IDREAD if after_the_address => Some(id[device.id_pointer as usize]),
-        READ if after_the_address => Some(read_clock(device, device.clock_pointer)),
+    match device.frame {
+        Frame::Heard(code) if code.byte() == SRREAD => Some(device.status()),
+        Frame::Reading(Place::Eeprom(p)) => Some(eeprom[p as usize]),
+        Frame::Reading(Place::Id(p)) => Some(id[p as usize]),
+        Frame::Reading(Place::Clock(address)) => Some(read_clock(device, address)),
         _ => None,
     }
 }
@@ -447,65 +560,71 @@ fn byte(part: u64, device: &mut Device, byte: u8, eeprom: &[u8], id: &[u8]) -> O
 }
 
 fn take_byte(part: u64, device: &mut Device, byte: u8) {
-    match device.frame {
-        Frame::Idle | Frame::Unheard => {}
-        Frame::Empty => {
-            let heard = !device.wip() || heard_under_wip(byte);
-            device.frame = if heard {
-                Frame::Heard { code: byte, bytes: Bytes::One, second: 0 }
-            } else {
-                Frame::Unheard
-            };
+    device.frame = match device.frame {
+        Frame::Empty if device.wip() && !heard_under_wip(byte) => Frame::Unheard,
+        Frame::Empty => Frame::Heard(Code::of(byte)),
+        Frame::Heard(code) => second_byte(part, device, code, byte),
+        Frame::Reading(place) => Frame::Reading(next_place(part, place)),
+        Frame::Writing(place) => {
+            data_byte(part, device, place, byte);
+            match place {
+                Place::Clock(_) => Frame::Writing(next_place(part, place)),
+                Place::Eeprom(_) | Place::Id(_) => device.frame,
+            }
         }
-        Frame::Heard { code, bytes: Bytes::One, .. } => {
-            let second = match code {
-                UNLOCK | SRWRITE => byte,
-                _ => 0,
-            };
-            device.frame = Frame::Heard { code, bytes: Bytes::Two, second };
-            second_byte(part, device, code, byte);
-        }
-        Frame::Heard { code, second, .. } => {
-            device.frame = Frame::Heard { code, bytes: Bytes::More, second };
-            data_byte(part, device, code, byte);
-        }
+        Frame::Second(Two::Srwrite(_)) => Frame::Over(TooLong::Srwrite),
+        Frame::Second(Two::Unlock(_)) => Frame::Over(TooLong::Unlock),
+        Frame::Second(Two::Clrwdt) => Frame::Over(TooLong::Clrwdt),
+        Frame::Second(Two::Clrram) => Frame::Over(TooLong::Clrram),
+        Frame::Idle | Frame::Unheard | Frame::Over(_) => device.frame,
+    };
+}
+
+/// Gives where the second byte takes the frame. The address of a page write empties the load.
+fn second_byte(part: u64, device: &mut Device, code: Code, byte: u8) -> Frame {
+    // 01 Frames: with 1 Kbit, bit 7 of the address does not count; of an ID address the low four
+    // bits count.
+    let eeprom = Place::Eeprom(u64::from(byte) % eeprom_length(part) as u64);
+    let id = Place::Id(u64::from(byte % 16));
+    if let EEWRITE | IDWRITE = code.byte() {
+        device.offset = u64::from(byte % 8);
+        device.loaded = 0;
+        device.load = [0; 8];
+    }
+    match code.byte() {
+        EEREAD => Frame::Reading(eeprom),
+        IDREAD => Frame::Reading(id),
+        READ => Frame::Reading(Place::Clock(byte)),
+        EEWRITE => Frame::Writing(eeprom),
+        IDWRITE => Frame::Writing(id),
+        WRITE => Frame::Writing(Place::Clock(byte)),
+        SRWRITE => Frame::Second(Two::Srwrite(byte)),
+        UNLOCK => Frame::Second(Two::Unlock(byte)),
+        CLRWDT => Frame::Second(Two::Clrwdt),
+        CLRRAM => Frame::Second(Two::Clrram),
+        EEWREN => Frame::Over(TooLong::Eewren),
+        EEWRDI => Frame::Over(TooLong::Eewrdi),
+        _ => Frame::Heard(code), // SRREAD, an unknown code
     }
 }
 
-fn second_byte(part: u64, device: &mut Device, code: u8, byte: u8) {
-    match code {
-        EEREAD | EEWRITE => {
-            // 01 Frames: with 1 Kbit, bit 7 of the address does not count.
-            device.eeprom_pointer = u64::from(byte) % eeprom_length(part) as u64;
-            device.offset = u64::from(byte % 8);
-            device.loaded = [None; 8];
-        }
-        IDREAD | IDWRITE => {
-            // 01 Frames: of an ID address the low four bits count.
-            device.id_pointer = u64::from(byte % 16);
-            device.offset = u64::from(byte % 8);
-            device.loaded = [None; 8];
-        }
-        READ | WRITE => device.clock_pointer = byte,
-        _ => {}
+fn next_place(part: u64, place: Place) -> Place {
+    match place {
+        Place::Eeprom(p) => Place::Eeprom((p + 1) % eeprom_length(part) as u64),
+        Place::Id(p) => Place::Id((p + 1) % 16),
+        Place::Clock(address) => Place::Clock(next_clock_address(address)),
     }
 }
 
-fn data_byte(part: u64, device: &mut Device, code: u8, byte: u8) {
-    match code {
-        EEREAD => device.eeprom_pointer = (device.eeprom_pointer + 1) % eeprom_length(part) as u64,
-        IDREAD => device.id_pointer = (device.id_pointer + 1) % 16,
-        READ => device.clock_pointer = next_clock_address(device.clock_pointer),
-        WRITE => {
-            write_clock(part, device, device.clock_pointer, byte);
-            device.clock_pointer = next_clock_address(device.clock_pointer);
-        }
-        EEWRITE | IDWRITE => {
+fn data_byte(part: u64, device: &mut Device, place: Place, byte: u8) {
+    match place {
+        Place::Clock(address) => write_clock(part, device, address, byte),
+        Place::Eeprom(_) | Place::Id(_) => {
             // 01 Frames: offset 0 comes after offset 7, and the newest byte of an offset stands.
-            device.loaded[device.offset as usize] = Some(byte);
+            device.loaded |= 1 << device.offset;
+            device.load[device.offset as usize] = byte;
             device.offset = (device.offset + 1) % 8;
         }
-        _ => {}
     }
 }
 
@@ -526,31 +645,39 @@ fn end(part: u64, device: &mut Device, leftover: u64, eeprom: &[u8], id: &[u8]) 
 }
 
 fn close_frame(part: u64, device: &mut Device, leftover: u64) {
-    if let Frame::Heard { code, bytes, second } = device.frame {
-        let whole = leftover == 0;
-        match code {
-            EEWREN if bytes == Bytes::One && whole => device.wel = true,
-            EEWRDI if bytes == Bytes::One && whole => device.wel = false,
-            CLRWDT if bytes != Bytes::More && whole => device.watchdog = 0,
-            CLRRAM if bytes != Bytes::More && whole => device.sram = [0; 64],
-            EEWRITE if bytes == Bytes::More && whole && page_is_free(part, device) => {
-                start_if_enabled(device, Target::Eeprom);
+    let (frame, whole) = (device.frame, leftover == 0);
+    device.frame = Frame::Idle;
+    if whole {
+        match frame {
+            Frame::Heard(code) => match code.byte() {
+                EEWREN => device.wel = true,
+                EEWRDI => device.wel = false,
+                CLRWDT => device.watchdog = 0,
+                CLRRAM => device.sram = [0; 64],
+                _ => {}
+            },
+            Frame::Second(Two::Clrwdt) => device.watchdog = 0,
+            Frame::Second(Two::Clrram) => device.sram = [0; 64],
+            // A page write with data has a loaded offset.
+            Frame::Writing(Place::Eeprom(p))
+                if device.loaded != 0 && page_is_free(part, device, p) =>
+            {
+                start_if_enabled(device, Target::Eeprom(p));
             }
-            IDWRITE if bytes == Bytes::More && whole && device.lock == Lock::Open => {
-                start_if_enabled(device, Target::Id);
+            Frame::Writing(Place::Id(p)) if device.loaded != 0 && device.lock == Lock::Open => {
+                start_if_enabled(device, Target::Id(p));
             }
-            SRWRITE if bytes == Bytes::Two && whole => {
-                start_if_enabled(device, Target::Status(Protection::from_bits(second >> 2)));
+            Frame::Second(Two::Srwrite(byte)) => {
+                start_if_enabled(device, Target::Status(Protection::from_bits(byte >> 2)));
             }
             _ => {}
         }
-        device.lock = lock_after_end(device.lock, code, bytes == Bytes::Two && whole, second);
     }
-    device.frame = Frame::Idle;
+    device.lock = lock_after_end(device.lock, frame, whole);
 }
 
-fn page_is_free(part: u64, device: &Device) -> bool {
-    let page = device.eeprom_pointer as usize / 8 * 8;
+fn page_is_free(part: u64, device: &Device, pointer: u64) -> bool {
+    let page = pointer as usize / 8 * 8;
     page < device.protection.first_protected(eeprom_length(part))
 }
 
@@ -563,15 +690,12 @@ fn start_if_enabled(device: &mut Device, target: Target) {
     }
 }
 
-/// 01 Frames, the lock (bench). `two_whole`: two bytes came and no bit is left over.
-fn lock_after_end(lock: Lock, code: u8, two_whole: bool, second: u8) -> Lock {
-    match code {
-        UNLOCK => match (two_whole, second, lock) {
-            (true, 0x55, _) => Lock::FirstStep,
-            (true, 0xAA, Lock::FirstStep) => Lock::Open,
-            _ => Lock::Closed,
-        },
-        EEWREN | SRREAD => lock,
+/// 01 Frames, the lock (bench). `whole`: no bit is left over.
+fn lock_after_end(lock: Lock, frame: Frame, whole: bool) -> Lock {
+    match (frame, frame.code()) {
+        (_, None | Some(EEWREN | SRREAD)) => lock,
+        (Frame::Second(Two::Unlock(0x55)), _) if whole => Lock::FirstStep,
+        (Frame::Second(Two::Unlock(0xAA)), _) if whole && lock == Lock::FirstStep => Lock::Open,
         _ => Lock::Closed,
     }
 }
@@ -582,8 +706,8 @@ fn lock_after_end(lock: Lock, code: u8, two_whole: bool, second: u8) -> Lock {
 /// Stores what the cycle loaded, at the offsets under the mask; gives how many were stored.
 fn store(device: &mut Device, mask: u8, eeprom: &mut [u8], id: &mut [u8]) -> u64 {
     let (memory, page) = match device.target {
-        Target::Eeprom => (eeprom, device.eeprom_pointer as usize / 8 * 8),
-        Target::Id => (id, device.id_pointer as usize / 8 * 8),
+        Target::Eeprom(p) => (eeprom, p as usize / 8 * 8),
+        Target::Id(p) => (id, p as usize / 8 * 8),
         Target::Status(protection) => {
             if mask & 1 == 1 {
                 device.protection = protection;
@@ -593,8 +717,8 @@ fn store(device: &mut Device, mask: u8, eeprom: &mut [u8], id: &mut [u8]) -> u64
     };
     let mut stored = 0;
     for offset in 0..8 {
-        if let (Some(byte), 1) = (device.loaded[offset], mask >> offset & 1) {
-            memory[page + offset] = byte;
+        if device.loaded >> offset & mask >> offset & 1 == 1 {
+            memory[page + offset] = device.load[offset];
             stored += 1;
         }
     }

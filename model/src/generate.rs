@@ -1,13 +1,19 @@
 //! Random tapes that reach deep states: whole scenes (an unlock and an ID write, a time about to
 //! carry into an alarm, a cut in the middle of a cycle), disturbed now and then by a wait, a bad
 //! line, a refused act, a missing line or a cut. There are four kinds, with scenes of their own.
+//! And random chips, as saved texts, whole and spoiled.
 
 mod bits;
+mod chips;
 mod latch;
 mod power;
+mod spoiled;
 
 use crate::calendar;
 use crate::chip::*;
+
+pub use chips::{chip, text_of};
+pub use spoiled::{saved_text, spoil, Way};
 
 /// A small generator of numbers (splitmix64), the same for a seed on every machine.
 pub struct Random(u64);

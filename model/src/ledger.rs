@@ -1,6 +1,8 @@
 //! The ledger (01 Ledger): which bytes the acts of a run should have written. It is told the acts,
-//! their numbers and how many ticks each wait used, and knows nothing of the chip's record.
+//! their numbers and how many ticks each wait used, and knows nothing of the chip's record. A run
+//! that goes on with a loaded chip begins with what the record says, looked at once.
 
+use crate::chip::{self, Chip, Place, Target, Two};
 use crate::{Act, ERASED};
 
 #[derive(Clone, Copy, Debug, PartialEq, Eq)]
@@ -59,16 +61,43 @@ pub struct Ledger {
     pub frame: Option<Frame>,
     pub cycle: Option<Cycle>,
     pub entries: Vec<Entry>,
+    /// What EEPROM and ID held when the run began.
+    pub began: (Vec<u8>, Vec<u8>),
 }
 
 const NO_FRAME_BYTE: Frame =
     Frame { heard: false, code: 0, second: 0, bytes: 0, page: 0, next: 0, loaded: [None; 8] };
 
+/// The frame that a record has open. How many bytes it had is known only as far as it matters; a
+/// number that agrees is put.
+fn frame_of(frame: chip::Frame, next: usize, loaded: [Option<u8>; 8]) -> Option<Frame> {
+    let heard = frame.code();
+    let begun = Frame { heard: heard.is_some(), code: heard.unwrap_or(0), ..NO_FRAME_BYTE };
+    Some(match frame {
+        chip::Frame::Idle => return None,
+        chip::Frame::Empty => NO_FRAME_BYTE,
+        chip::Frame::Unheard | chip::Frame::Heard(_) => Frame { bytes: 1, ..begun },
+        chip::Frame::Writing(Place::Eeprom(p) | Place::Id(p)) => {
+            let data = loaded.iter().any(Option::is_some);
+            let page = p as usize / 8 * 8;
+            Frame { bytes: if data { 3 } else { 2 }, page, next, loaded, ..begun }
+        }
+        chip::Frame::Second(Two::Srwrite(second) | Two::Unlock(second)) => {
+            Frame { bytes: 2, second, ..begun }
+        }
+        chip::Frame::Reading(_) | chip::Frame::Writing(_) | chip::Frame::Second(_) => {
+            Frame { bytes: 2, ..begun }
+        }
+        chip::Frame::Over(_) => Frame { bytes: 3, ..begun },
+    })
+}
+
 impl Ledger {
     /// 01 Ledger: as a fresh chip, no cycle, no entries. Parts 1 and 3 have the small EEPROM.
     pub fn new(part: u64) -> Ledger {
+        let small = part == 1 || part == 3;
         Ledger {
-            small: part == 1 || part == 3,
+            small,
             power: true,
             wel: false,
             bp: 0,
@@ -76,13 +105,45 @@ impl Ledger {
             frame: None,
             cycle: None,
             entries: Vec::new(),
+            began: (vec![ERASED; if small { 128 } else { 256 }], vec![ERASED; 16]),
         }
     }
 
-    /// 01 Ledger: what the newest entry for the place says; FFh if there is none.
+    /// 02 Save: the beginning of a run with a loaded chip. Its bytes stand for FFh; power, WEL, BP,
+    /// lock, an open frame and a running cycle are the record's.
+    pub fn of(chip: &Chip) -> Ledger {
+        let d = &chip.device;
+        let loaded = std::array::from_fn(|k| (d.loaded >> k & 1 == 1).then_some(d.load[k]));
+        let kind = match d.target {
+            Target::Eeprom(p) => Kind::Page(Memory::Eeprom, p as usize / 8 * 8),
+            Target::Id(p) => Kind::Page(Memory::Id, p as usize / 8 * 8),
+            Target::Status(protection) => Kind::Status(protection.bits()),
+        };
+        Ledger {
+            power: d.power,
+            wel: d.wel,
+            bp: d.protection.bits(),
+            lock: match d.lock {
+                chip::Lock::Closed => Lock::Closed,
+                chip::Lock::FirstStep => Lock::Half,
+                chip::Lock::Open => Lock::Open,
+            },
+            frame: frame_of(d.frame, d.offset as usize, loaded),
+            cycle: (d.countdown > 0).then_some(Cycle { kind, loaded, left: d.countdown }),
+            began: (chip.eeprom.clone(), chip.id.to_vec()),
+            ..Ledger::new(chip.part)
+        }
+    }
+
+    /// 01 Ledger: what the newest entry for the place says; FFh if there is none, or, 02 Save, what
+    /// was loaded there.
     pub fn byte_at(&self, memory: Memory, place: usize) -> u8 {
         let written = |e: &&Entry| e.memory == memory && e.place == place;
-        self.entries.iter().rev().find(written).map_or(ERASED, |e| e.byte)
+        let began = match memory {
+            Memory::Eeprom => self.began.0[place],
+            Memory::Id => self.began.1[place],
+        };
+        self.entries.iter().rev().find(written).map_or(began, |e| e.byte)
     }
 
     /// `ticks` is a wait's ticks used; it is looked at for a wait only.

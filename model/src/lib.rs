@@ -7,6 +7,7 @@ pub mod calendar;
 pub mod chip;
 pub mod generate;
 pub mod ledger;
+pub mod saved;
 pub mod tape;
 
 /// The six acts (01's word), each with a number.

@@ -1,7 +1,7 @@
 //! The tape (01 Tape): bytes to acts, answers to bytes.
 
-use crate::chip::{self, Answer, Device};
-use crate::{Act, ERASED};
+use crate::chip::{self, Answer, Chip};
+use crate::Act;
 
 /// What a line of the form names.
 #[derive(Clone, Copy, Debug, PartialEq, Eq)]
@@ -43,13 +43,6 @@ fn number(digits: &[u8]) -> Option<u64> {
     digits.iter().try_fold(0, |n, &d| d.is_ascii_digit().then(|| 10 * n + u64::from(d - b'0')))
 }
 
-struct Chip {
-    part: u64,
-    device: Device,
-    eeprom: Vec<u8>,
-    id: [u8; chip::ID_LENGTH],
-}
-
 /// A tape in the middle of its lines: the chip once a part came, and the bytes of a line that
 /// has not ended.
 #[derive(Default)]
@@ -62,6 +55,16 @@ pub struct Tape {
 impl Tape {
     pub fn new() -> Tape {
         Tape::default()
+    }
+
+    /// 02 Save: a tape that goes on with a loaded chip. Its part has come.
+    pub fn with(chip: Chip) -> Tape {
+        Tape { chip: Some(chip), ..Tape::default() }
+    }
+
+    /// None while no part came.
+    pub fn chip(&self) -> Option<&Chip> {
+        self.chip.as_ref()
     }
 
     /// Answers every line that ends in `chunk`.
@@ -102,17 +105,11 @@ impl Tape {
                 if !chip::part_exists(part) {
                     return (3, None);
                 }
-                self.chip = Some(Chip {
-                    part,
-                    device: Device::fresh(),
-                    eeprom: vec![ERASED; chip::eeprom_length(part)],
-                    id: [ERASED; chip::ID_LENGTH],
-                });
+                self.chip = Some(Chip::fresh(part));
                 (0, None)
             }
             (Some((Op::Do(act), number)), Some(c)) => {
-                let answer =
-                    chip::perform(c.part, act, number, &mut c.device, &mut c.eeprom, &mut c.id);
+                let answer = c.perform(act, number);
                 (answer.number, shown(act, answer))
             }
             // Not of the form, an act before the part, or a second part.

@@ -3,7 +3,7 @@
 
 mod common;
 use common::*;
-use model::chip::{Frame, Lock};
+use model::chip::{Chip, Frame, Lock, CODES};
 use model::generate;
 use model::ledger::{self, Entry, Ledger, Memory};
 use model::tape::{parse, Op};
@@ -42,6 +42,18 @@ struct Told {
 impl Told {
     fn new(part: u64) -> Told {
         Told { rig: Rig::new(part), ledger: Ledger::new(part) }
+    }
+
+    /// 02 Save: a loaded chip begins a new run.
+    fn of(chip: &Chip) -> Told {
+        let Chip { part, device, eeprom, id } = chip.clone();
+        Told { rig: Rig { part, device, eeprom, id: id.to_vec() }, ledger: Ledger::of(chip) }
+    }
+
+    /// The same chip, at the beginning of a new run.
+    fn anew(&self) -> Told {
+        let Rig { part, device, eeprom, id } = self.rig.clone();
+        Told::of(&Chip { part, device, eeprom, id: id.try_into().unwrap() })
     }
 
     /// An act; of its answer the ledger is told a wait's ticks.
@@ -298,4 +310,82 @@ fn a_protected_write_by_the_ledger() {
     assert_eq!(frame(&[0x06]), (true, 0b00, 0));
     assert_eq!(frame(&[0x02, 0x00, 0x11]), (false, 0b00, 1));
     assert_eq!(ledger.byte_at(Memory::Eeprom, 0x00), 0x11);
+}
+
+#[test]
+fn a_fresh_chip_is_one_beginning() {
+    for part in 1..=4 {
+        assert_eq!(Ledger::of(&Chip::fresh(part)), Ledger::new(part));
+    }
+}
+
+#[test]
+fn runs_that_begin_with_any_chip() {
+    let mut random = generate::Random::new(48);
+    let (mut entries, mut of_a_loaded_cycle, mut of_a_loaded_frame) = (0, 0, 0);
+    for _ in 0..4_000 {
+        let chip = generate::chip(&mut random);
+        let mut told = Told::of(&chip);
+        assert!(agrees(&told.rig, &told.ledger) && same_bytes(&told.rig, &told.ledger));
+        let (mut cycle, mut frame) = (chip.device.countdown > 0, chip.device.frame != Frame::Idle);
+        for _ in 0..30 {
+            let any = random.below(256);
+            let byte = match random.below(3) {
+                0 => any,
+                1 => u64::from(random.pick(&CODES)),
+                _ => random.pick(&[0x55, 0xAA]),
+            };
+            let (act, number) = random.pick(&[
+                (Act::Select, 0),
+                (Act::Byte, byte),
+                (Act::Byte, byte),
+                (Act::Byte, byte),
+                (Act::End, 0),
+                (Act::End, 0),
+                (Act::End, any % 8),
+                (Act::Wait, 164),
+                (Act::Wait, any),
+                (Act::Up, 0),
+                (if any < 64 { Act::Cut } else { Act::Up }, any),
+            ]);
+            let before = told.ledger.entries.len();
+            let started = told.ledger.cycle.is_some();
+            told.agreed(act, number);
+            assert!(same_bytes(&told.rig, &told.ledger), "{act:?} {number} after {chip:?}");
+            let added = told.ledger.entries.len() - before;
+            if added > 0 {
+                of_a_loaded_cycle += u64::from(cycle);
+                of_a_loaded_frame += u64::from(!cycle && frame);
+            }
+            entries += added;
+            cycle = cycle && told.ledger.cycle.is_some();
+            // A frame that was loaded ends, and the cycle that it started goes on.
+            frame = frame
+                && (told.rig.device.frame != Frame::Idle
+                    || told.ledger.cycle.is_some() && (started || act == Act::End));
+        }
+    }
+    let counts = (entries, of_a_loaded_cycle, of_a_loaded_frame);
+    assert!(entries > 2_000 && of_a_loaded_cycle > 300 && of_a_loaded_frame > 30, "{counts:?}");
+}
+
+#[test]
+fn runs_that_begin_anew_at_every_act() {
+    let mut entries = 0;
+    for seed in 0..24 {
+        let made = [generate::tape, generate::power_tape, generate::latch_tape][seed as usize % 3];
+        let mut told = Told::new(1 + seed % 4);
+        for line in made(seed, 500).split(|&b| b == b'\n') {
+            let Some((Op::Do(act), number)) = parse(line) else { continue };
+            told.agreed(act, number);
+            if told.ledger.entries.is_empty() {
+                assert_eq!(told.ledger.began, (told.rig.eeprom.clone(), told.rig.id.clone()));
+            } else {
+                assert!(same_bytes(&told.rig, &told.ledger), "seed {seed}");
+            }
+            entries += told.ledger.entries.len();
+            told = told.anew();
+        }
+    }
+    assert!(entries > 200, "{entries} entries");
 }

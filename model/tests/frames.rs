@@ -2,7 +2,7 @@
 
 mod common;
 use common::*;
-use model::chip::{Bytes, Frame, Lock, Protection};
+use model::chip::{Code, Frame, Lock, Place, Protection};
 
 const ALL_CODES: [u8; 13] =
     [0x03, 0x02, 0x04, 0x06, 0x05, 0x01, 0x13, 0x12, 0x14, 0x32, 0x33, 0x44, 0x54];
@@ -106,15 +106,21 @@ fn from_60h_up() {
     for address in 0x60..=0xFF {
         let mut rig = Rig::new(W2K);
         let before = rig.device.clone();
-        rig.write(address, &[0xFF; 200]);
-        assert_eq!(
-            (rig.device.registers, rig.device.sram, rig.device.clock_pointer),
-            (before.registers, before.sram, address)
-        );
+        rig.select();
+        for byte in [&[0x12, address][..], &[0xFF; 200]].concat() {
+            rig.byte(byte);
+        }
+        assert_eq!(rig.device.frame, Frame::Writing(Place::Clock(address)));
+        rig.end(0);
+        assert_eq!((rig.device.registers, rig.device.sram), (before.registers, before.sram));
         rig.write(0x00, &[0x77]);
         rig.write(0x20, &[0x77]);
         assert_eq!(rig.frame(&[0x13, address, 0, 0, 0])[2..], [Some(0), Some(0), Some(0)]);
-        assert_eq!(rig.device.clock_pointer, address);
+        rig.select();
+        for byte in [0x13, address, 0, 0, 0] {
+            rig.byte(byte);
+        }
+        assert_eq!(rig.device.frame, Frame::Reading(Place::Clock(address)));
     }
 }
 
@@ -349,11 +355,7 @@ fn heard_under_wip() {
         rig.select();
         rig.byte(code);
         let heard = matches!(code, 0x05 | 0x13 | 0x12 | 0x44 | 0x54);
-        let expected = if heard {
-            Frame::Heard { code, bytes: Bytes::One, second: 0 }
-        } else {
-            Frame::Unheard
-        };
+        let expected = if heard { Frame::Heard(Code::of(code)) } else { Frame::Unheard };
         assert_eq!(rig.device.frame, expected);
     }
     let mut rig = Rig::new(W2K);

@@ -7,7 +7,7 @@ use std::fmt::Debug;
 
 use common::*;
 use model::calendar::{from_bcd, leap};
-use model::chip::{Bytes, Device, Frame, Lock, Protection};
+use model::chip::{Device, Frame, Lock, Place, Protection};
 use model::generate::{bits_tape, latch_tape, power_tape, tape};
 use model::tape::{answers, parse, Op};
 use model::Act;
@@ -101,9 +101,9 @@ impl Met {
         self.count("a minute on the battery", counted && ticks > 60 * 32_768);
     }
 
-    fn write(&mut self, before: &Device, byte: u8) {
+    fn write(&mut self, before: &Device, address: u8, byte: u8) {
         let r = &before.registers;
-        let address = usize::from(before.clock_pointer);
+        let address = usize::from(address);
         let vbat = r[4] & 0x10 != 0;
         let stamps = r[0x18..].iter().any(|&b| b != 0);
         if address == 4 {
@@ -129,13 +129,12 @@ fn what_power_tapes_reach() {
             if answer.number != 0 {
                 continue;
             }
-            let data = |bytes| matches!(bytes, Bytes::Two | Bytes::More);
             match (act, before.frame) {
                 (Act::Cut, _) => met.cut(&before),
                 (Act::Up, _) => met.up(&before, &rig.device),
                 (Act::Wait, _) => met.wait(&before, answer.count),
-                (Act::Byte, Frame::Heard { code: 0x12, bytes, .. }) if data(bytes) => {
-                    met.write(&before, number as u8);
+                (Act::Byte, Frame::Writing(Place::Clock(address))) => {
+                    met.write(&before, address, number as u8);
                 }
                 _ => {}
             }
@@ -175,11 +174,11 @@ impl Latch {
     }
 
     /// A heard frame has come to its end.
-    fn end(&mut self, code: u8, bytes: Bytes, leftover: u64, before: &Device, after: &Device) {
-        let one = bytes == Bytes::One;
+    fn end(&mut self, code: u8, leftover: u64, before: &Device, after: &Device) {
+        let one = matches!(before.frame, Frame::Heard(_));
         let data = match code {
             0x01 => !one,
-            0x02 | 0x32 => bytes == Bytes::More,
+            0x02 | 0x32 => !one && before.loaded != 0,
             _ => false,
         };
         if data && before.wel && after.countdown > 0 {
@@ -211,11 +210,9 @@ impl Latch {
     }
 
     fn act(&mut self, act: Act, number: u64, before: &Device, after: &Device) {
-        match (act, before.frame) {
-            (Act::End, Frame::Heard { code, bytes, .. }) => {
-                self.end(code, bytes, number, before, after);
-            }
-            (Act::Byte, Frame::Heard { code: 0x05, .. }) => {
+        match (act, before.frame.code()) {
+            (Act::End, Some(code)) => self.end(code, number, before, after),
+            (Act::Byte, Some(0x05)) => {
                 self.failed.values_mut().for_each(|looked| *looked = true);
             }
             (Act::Cut, _) => self.others.count("a cut", !self.failed.is_empty()),
@@ -248,15 +245,13 @@ fn what_latch_tapes_reach() {
 
 /// Where the next byte of a frame comes from, if one comes.
 fn source(d: &Device) -> Option<&'static str> {
-    let Frame::Heard { code, bytes, .. } = d.frame else { return None };
-    match (code, bytes, d.clock_pointer) {
-        (0x05, _, _) => Some("STATUS"),
-        (_, Bytes::One, _) => None,
-        (0x03, _, _) => Some("EEPROM"),
-        (0x33, _, _) => Some("ID"),
-        (0x13, _, 0x00..=0x1F) => Some("a register"),
-        (0x13, _, 0x20..=0x5F) => Some("SRAM"),
-        (0x13, _, _) => Some("60h or above"),
+    match d.frame {
+        Frame::Heard(code) if code.byte() == 0x05 => Some("STATUS"),
+        Frame::Reading(Place::Eeprom(_)) => Some("EEPROM"),
+        Frame::Reading(Place::Id(_)) => Some("ID"),
+        Frame::Reading(Place::Clock(0x00..=0x1F)) => Some("a register"),
+        Frame::Reading(Place::Clock(0x20..=0x5F)) => Some("SRAM"),
+        Frame::Reading(Place::Clock(_)) => Some("60h or above"),
         _ => None,
     }
 }
@@ -273,6 +268,8 @@ struct HalfBytes {
     others: Met,
     /// What the next byte would have been when the last one had come.
     next: Option<u8>,
+    /// How many bytes the frame has.
+    bytes: u64,
 }
 
 impl HalfBytes {
@@ -296,7 +293,7 @@ impl HalfBytes {
         if ones > 0 && u64::from(ones) < leftover {
             self.mixed.count((source, leftover), true);
         }
-        self.rolled_over(source, before);
+        self.rolled_over(before);
         match source {
             "STATUS" => self.status(leftover, &before.device),
             "a register" => self.register(&before.device),
@@ -317,17 +314,17 @@ impl HalfBytes {
         self.others.count("a change among the bits over", seen);
     }
 
-    fn rolled_over(&mut self, source: &str, before: &Rig) {
-        let d = &before.device;
-        let later = matches!(d.frame, Frame::Heard { bytes: Bytes::More, .. });
+    fn rolled_over(&mut self, before: &Rig) {
+        // A byte came after code and address.
+        let at = |place| self.bytes > 2 && before.device.frame == Frame::Reading(place);
         let small = before.eeprom.len() == 128;
-        let eeprom = source == "EEPROM" && later && d.eeprom_pointer == 0;
+        let [eeprom, id] = [at(Place::Eeprom(0)), at(Place::Id(0))];
+        let [registers, sram] = [at(Place::Clock(0x00)), at(Place::Clock(0x20))];
         self.others.count("EEPROM 00h after 7Fh", eeprom && small);
         self.others.count("EEPROM 00h after FFh", eeprom && !small);
-        self.others.count("ID 00h after 0Fh", source == "ID" && later && d.id_pointer == 0);
-        let clock = |first| later && d.clock_pointer == first;
-        self.others.count("00h after 1Fh", source == "a register" && clock(0x00));
-        self.others.count("20h after 5Fh", source == "SRAM" && clock(0x20));
+        self.others.count("ID 00h after 0Fh", id);
+        self.others.count("00h after 1Fh", registers);
+        self.others.count("20h after 5Fh", sram);
     }
 
     fn status(&mut self, leftover: u64, d: &Device) {
@@ -338,7 +335,8 @@ impl HalfBytes {
     }
 
     fn register(&mut self, d: &Device) {
-        let (address, r) = (usize::from(d.clock_pointer), &d.registers);
+        let Frame::Reading(Place::Clock(address)) = d.frame else { return };
+        let (address, r) = (usize::from(address), &d.registers);
         self.others.count("OSCON", address == 0x04 && d.start_up == 32);
         self.others.count("LP", address == 0x06 && leap(r[7]));
         let alarm_hours = [0x0E, 0x15].contains(&address);
@@ -348,10 +346,7 @@ impl HalfBytes {
 
     /// An end with bits over that answers none.
     fn none(&mut self, before: &Device) {
-        let heard = |codes: &[u8]| match before.frame {
-            Frame::Heard { code, .. } => codes.contains(&code),
-            _ => false,
-        };
+        let heard = |codes: &[u8]| before.frame.code().is_some_and(|code| codes.contains(&code));
         self.others.count("no byte", before.frame == Frame::Empty);
         self.others.count("EEREAD without its address", heard(&[0x03]));
         self.others.count("READ without its address", heard(&[0x13]));
@@ -362,9 +357,7 @@ impl HalfBytes {
         self.others.count("WRITE", heard(&[0x12]));
         self.others.count("UNLOCK", heard(&[0x14]));
         self.others.count("one of one byte", heard(&[0x04, 0x06, 0x44, 0x54]));
-        let known = [3, 2, 4, 6, 5, 1, 0x13, 0x12, 0x14, 0x32, 0x33, 0x44, 0x54];
-        let unknown = matches!(before.frame, Frame::Heard { code, .. } if !known.contains(&code));
-        self.others.count("an unknown code", unknown);
+        self.others.count("an unknown code", heard(&[0]));
         let unheard = before.frame == Frame::Unheard;
         self.others.count("not heard", unheard && before.countdown > 0);
         self.others.count("not heard, the cycle over", unheard && before.countdown == 0);
@@ -388,7 +381,11 @@ impl HalfBytes {
             },
             (Act::End, refusal, 1..) => self.refused(refusal, source.is_some()),
             (Act::Cut, 0, _) => self.others.count("a cut in a read", source.is_some()),
-            (Act::Byte, 0, _) => self.next = after.clone().act(Act::Byte, 0).reply,
+            (Act::Select, 0, _) => self.bytes = 0,
+            (Act::Byte, 0, _) => {
+                self.next = after.clone().act(Act::Byte, 0).reply;
+                self.bytes += 1;
+            }
             _ => {}
         }
     }

@@ -3,7 +3,7 @@
 
 mod common;
 use common::*;
-use model::chip::{Answer, Bytes, Frame, Lock, Protection, Target};
+use model::chip::{Answer, Code, Frame, Lock, Place, Protection, Target};
 use model::generate;
 use model::tape::{answers, parse, Op};
 use model::Act;
@@ -241,7 +241,7 @@ fn of_unheard_frames() {
     // Under WIP only SRREAD, READ, WRITE, CLRWDT and CLRRAM are heard; READ and SRREAD answer.
     // WIP and WEL are set: 0000 0011.
     let status = [Some(0), Some(0), Some(0), Some(0), Some(0), Some(0), Some(1)];
-    for target in [Target::Eeprom, Target::Id, Target::Status(Protection::All)] {
+    for target in [Target::Eeprom(0), Target::Id(0), Target::Status(Protection::All)] {
         let mut rig = filled(W2K);
         (rig.device.target, rig.device.wel, rig.device.countdown) = (target, true, 100);
         for code in 0..=255 {
@@ -524,28 +524,28 @@ fn of_time_stamps() {
 
 #[test]
 fn only_the_frame_and_the_lock_move() {
-    // The pointers stay; a read closes the lock, SRREAD leaves it; WEL and memories stay.
+    // A read closes the lock, SRREAD leaves it; WEL and memories stay.
+    let heard = |code| Frame::Heard(Code::of(code));
     for leftover in 1..=7 {
-        for (bytes, pointers, lock) in [
-            (&[0x03, 0x21][..], (0x21, 0, 0), Lock::Closed),
-            (&[0x03, 0x21, 0, 0], (0x23, 0, 0), Lock::Closed),
-            (&[0x03, 0xFF, 0], (0x00, 0, 0), Lock::Closed),
-            (&[0x33, 0x05], (0, 0x05, 0), Lock::Closed),
-            (&[0x33, 0x0F, 0, 0], (0, 0x01, 0), Lock::Closed),
-            (&[0x13, 0x1F], (0, 0, 0x1F), Lock::Closed),
-            (&[0x13, 0x5F, 0], (0, 0, 0x20), Lock::Closed),
-            (&[0x13, 0x77, 0, 0], (0, 0, 0x77), Lock::Closed),
-            (&[0x05], (0, 0, 0), Lock::Open),
-            (&[0x05, 0, 0], (0, 0, 0), Lock::Open),
-            (&[0x03], (0, 0, 0), Lock::Closed),
-            (&[], (0, 0, 0), Lock::Open),
+        for (bytes, frame, lock) in [
+            (&[0x03, 0x21][..], Frame::Reading(Place::Eeprom(0x21)), Lock::Closed),
+            (&[0x03, 0x21, 0, 0], Frame::Reading(Place::Eeprom(0x23)), Lock::Closed),
+            (&[0x03, 0xFF, 0], Frame::Reading(Place::Eeprom(0x00)), Lock::Closed),
+            (&[0x33, 0x05], Frame::Reading(Place::Id(0x05)), Lock::Closed),
+            (&[0x33, 0x0F, 0, 0], Frame::Reading(Place::Id(0x01)), Lock::Closed),
+            (&[0x13, 0x1F], Frame::Reading(Place::Clock(0x1F)), Lock::Closed),
+            (&[0x13, 0x5F, 0], Frame::Reading(Place::Clock(0x20)), Lock::Closed),
+            (&[0x13, 0x77, 0, 0], Frame::Reading(Place::Clock(0x77)), Lock::Closed),
+            (&[0x05], heard(0x05), Lock::Open),
+            (&[0x05, 0, 0], heard(0x05), Lock::Open),
+            (&[0x03], heard(0x03), Lock::Closed),
+            (&[], Frame::Empty, Lock::Open),
         ] {
             let mut rig = Rig::new(W2K);
             rig.enable();
             rig.unlock();
             let mut rig = opened(&rig, bytes);
-            let d = &rig.device;
-            assert_eq!((d.eeprom_pointer, d.id_pointer, d.clock_pointer), pointers, "{bytes:02X?}");
+            assert_eq!(rig.device.frame, frame, "{bytes:02X?}");
             let mut expected = rig.clone();
             (expected.device.frame, expected.device.lock) = (Frame::Idle, lock);
             rig.end(leftover);
@@ -558,9 +558,9 @@ fn only_the_frame_and_the_lock_move() {
 
 #[test]
 fn as_after_a_whole_byte() {
-    // A read that is broken off and one that ends with a whole byte leave the same, but for the
-    // pointer, which the next frame sets anew. WEL is set and the lock open: WEL stays, and only
-    // SRREAD leaves the lock, so that an IDWRITE is carried after it (164 ticks).
+    // A read that is broken off and one that ends with a whole byte leave the same. WEL is set
+    // and the lock open: WEL stays, and only SRREAD leaves the lock, so that an IDWRITE is carried
+    // after it (164 ticks).
     for leftover in 1..=7 {
         for (read, lock, status, ticks) in [
             (&[0x03, 0x10, 0][..], Lock::Closed, 0b0010, 500),
@@ -578,11 +578,7 @@ fn as_after_a_whole_byte() {
             for rig in [&whole, &broken] {
                 assert_eq!((rig.device.wel, rig.device.lock), (true, lock), "{read:02X?}");
             }
-            let mut moved = broken.clone();
-            moved.device.eeprom_pointer = whole.device.eeprom_pointer;
-            moved.device.clock_pointer = whole.device.clock_pointer;
-            moved.device.id_pointer = whole.device.id_pointer;
-            assert_eq!(moved, whole, "{read:02X?}");
+            assert_eq!(broken, whole, "{read:02X?}");
             let again = |rig: &mut Rig| {
                 let replies = rig.frame(read);
                 rig.frame(&[0x32, 0x02, 0x11]);
@@ -727,16 +723,13 @@ fn records_from_elsewhere() {
     // A frame that is open in the record answers as one that was opened by acts.
     let mut rig = filled(W2K);
     rig.eeprom[0xFF] = 0x5A;
-    let two = |code| Frame::Heard { code, bytes: Bytes::Two, second: 0 };
-    rig.device.eeprom_pointer = 0xFF;
-    rig.device.frame = two(0x03);
+    rig.device.frame = Frame::Reading(Place::Eeprom(0xFF));
     assert_eq!(bits_now(&rig), OF_5A);
-    rig.device.clock_pointer = 0x09;
-    rig.device.frame = two(0x13);
+    rig.device.frame = Frame::Reading(Place::Clock(0x09));
     assert_eq!(bits_now(&rig), OF_B4);
     rig.device.countdown = 7;
     assert_eq!(bits_now(&rig), OF_B4);
     // EEREAD cannot be open and heard in a cycle: number 6, and no bits.
-    rig.device.frame = two(0x03);
+    rig.device.frame = Frame::Reading(Place::Eeprom(0xFF));
     rig.refused(Act::End, 5, 6);
 }

@@ -319,7 +319,7 @@ fn at_the_last_tick_of_a_cycle() {
         assert_eq!(latch(&mut rig), CLEAR);
     }
     // A record may have a cycle of any kind with WEL set or clear, and one tick of it left.
-    for target in [Target::Eeprom, Target::Id, Target::Status(Protection::Half)] {
+    for target in [Target::Eeprom(0), Target::Id(0), Target::Status(Protection::Half)] {
         for wel in [false, true] {
             let mut rig = Rig::new(W2K);
             (rig.device.target, rig.device.wel, rig.device.countdown) = (target, wel, 2);

@@ -3,7 +3,7 @@
 
 mod common;
 use common::*;
-use model::chip::{Bytes, Device, Frame, Lock, Protection, Target};
+use model::chip::{Code, Device, Frame, Lock, Place, Protection, Target, TooLong, Two};
 use model::Act;
 
 const ACTS: [Act; 6] = [Act::Select, Act::Byte, Act::End, Act::Wait, Act::Cut, Act::Up];
@@ -15,7 +15,7 @@ fn refused_by_all(rig: &mut Rig, number: u64) {
 }
 
 fn heard(code: u8) -> Frame {
-    Frame::Heard { code, bytes: Bytes::One, second: 0 }
+    Frame::Heard(Code::of(code))
 }
 
 #[test]
@@ -147,8 +147,21 @@ fn number_6_counts() {
         out_of_range(part, |d| d.delay = 2_097_153);
         in_range(part, |d| d.offset = 7);
         out_of_range(part, |d| d.offset = 8);
-        in_range(part, |d| d.id_pointer = 15);
-        out_of_range(part, |d| d.id_pointer = 16);
+    }
+}
+
+#[test]
+fn number_6_id_pointer() {
+    for part in [W1K, W2K, B1K, B2K] {
+        for open in [Frame::Reading, Frame::Writing] {
+            in_range(part, |d| d.frame = open(Place::Id(15)));
+            out_of_range(part, |d| d.frame = open(Place::Id(16)));
+        }
+        in_range(part, |d| d.target = Target::Id(15));
+        // In use or not.
+        for countdown in [0, 1] {
+            out_of_range(part, |d| (d.target, d.countdown) = (Target::Id(16), countdown));
+        }
     }
 }
 
@@ -167,10 +180,15 @@ fn number_6_watchdog_count() {
 #[test]
 fn number_6_eeprom_pointer() {
     for (part, length) in [(W1K, 128), (B1K, 128), (W2K, 256), (B2K, 256)] {
-        in_range(part, |d| d.eeprom_pointer = length - 1);
-        out_of_range(part, |d| d.eeprom_pointer = length);
+        for open in [Frame::Reading, Frame::Writing] {
+            in_range(part, |d| d.frame = open(Place::Eeprom(length - 1)));
+            out_of_range(part, |d| d.frame = open(Place::Eeprom(length)));
+        }
+        in_range(part, |d| d.target = Target::Eeprom(length - 1));
         // In use or not.
-        out_of_range(part, |d| (d.eeprom_pointer, d.frame) = (length, heard(0x03)));
+        for countdown in [0, 1] {
+            out_of_range(part, |d| (d.target, d.countdown) = (Target::Eeprom(length), countdown));
+        }
     }
 }
 
@@ -245,8 +263,33 @@ fn number_6_frame_under_a_cycle() {
             _ => out_of_range(W2K, |d| (d.frame, d.countdown) = (heard(code), 1)),
         }
     }
-    for frame in [Frame::Idle, Frame::Empty, Frame::Unheard] {
+    for frame in [
+        Frame::Idle,
+        Frame::Empty,
+        Frame::Unheard,
+        Frame::Reading(Place::Clock(0)),
+        Frame::Writing(Place::Clock(0)),
+        Frame::Second(Two::Clrwdt),
+        Frame::Second(Two::Clrram),
+        Frame::Over(TooLong::Clrwdt),
+        Frame::Over(TooLong::Clrram),
+    ] {
         in_range(W2K, |d| (d.frame, d.countdown) = (frame, 164));
+    }
+    for frame in [
+        Frame::Reading(Place::Eeprom(0)),
+        Frame::Reading(Place::Id(0)),
+        Frame::Writing(Place::Eeprom(0)),
+        Frame::Writing(Place::Id(0)),
+        Frame::Second(Two::Srwrite(0)),
+        Frame::Second(Two::Unlock(0)),
+        Frame::Over(TooLong::Srwrite),
+        Frame::Over(TooLong::Unlock),
+        Frame::Over(TooLong::Eewren),
+        Frame::Over(TooLong::Eewrdi),
+    ] {
+        in_range(W2K, |d| d.frame = frame);
+        out_of_range(W2K, |d| (d.frame, d.countdown) = (frame, 164));
     }
 }
 
@@ -256,10 +299,11 @@ fn what_the_list_does_not_name_is_in_range() {
     in_range(W2K, |d| (d.power, d.lock) = (false, Lock::Open));
     in_range(W2K, |d| (d.power, d.pulse) = (false, 4));
     in_range(W2K, |d| (d.power, d.registers[0x0A]) = (false, 0x80));
-    in_range(W2K, |d| (d.countdown, d.wel, d.loaded) = (7, false, [None; 8]));
+    in_range(W2K, |d| (d.countdown, d.wel, d.loaded) = (7, false, 0));
     in_range(W2K, |d| (d.countdown, d.target) = (7, Target::Status(Protection::All)));
     in_range(W2K, |d| d.frame = Frame::Unheard);
-    in_range(W2K, |d| d.clock_pointer = 0xFF);
+    in_range(W2K, |d| d.frame = Frame::Reading(Place::Clock(0xFF)));
+    in_range(W2K, |d| d.frame = Frame::Writing(Place::Clock(0xFF)));
 }
 
 /// Under the table of 01 Acts: the order of its numbers. (7 is the tape's.)
@@ -298,7 +342,7 @@ fn which_goes_first() {
     rig.refused(Act::Wait, 0, 3);
     // A record out of range for its memory, under a memory of another length: 4 before 6.
     let mut rig = Rig::new(W1K);
-    rig.device.eeprom_pointer = 200;
+    rig.device.target = Target::Eeprom(200);
     rig.refused(Act::Wait, 0, 6);
     rig.eeprom.resize(256, 0xFF);
     rig.refused(Act::Wait, 0, 4);

@@ -1,25 +1,34 @@
--- The three demands and the requests, proved by citing: the table's theorem and those of a tape's lines, the functions' proofs, demand 3, the law of every
--- feeding, the promises of the time-stamps, the latch and the leftover bits.
+-- The three demands and the requests, proved by citing: the table's theorem and those of a tape's lines, the functions' proofs, demand 3 from fresh and from
+-- any beginning, the law of every feeding, the promises of the time-stamps, the latch and the leftover bits, the claim of the saved form, and the laws of a tape
+-- that begins with a chip.
 -- Assumes nothing.
 use mathlib.Core.Path.{sym, _∙_}
 use borrow.Author.Tests.{ne-eqb}
 use Rattle.refusals.proofs.TableLaws.{exactly}
 use Rattle.acts.proofs.OutcomeLaws.{answered-by-table, refused-same}
 use Rattle.run.proofs.DemandThree.{demand-three}
+use Rattle.run.proofs.BeginAgrees.{demand-three-from, resumes}
+use Rattle.run.proofs.ForgetfulLaws.{says-more}
 use Rattle.run.proofs.LatchLaws.{latch}
 use Rattle.run.proofs.LeftoverLaws.{leftover-bits}
 use Rattle.run.proofs.StampLaws.{time-stamps}
 use Rattle.run.proofs.WrongLaws.{wrong-chips-fail}
 use Rattle.lines.proofs.LineLaws.{asks-exactly}
 use Rattle.answers.proofs.AnswerLaws.{seven-exactly, replies-shown, refused-setup}
-use Rattle.feeding.proofs.FeedLaws.{any-feeding}
+use Rattle.feeding.proofs.BeginLaws.{chip-answers, cut-in-two, tape-runs}
+use Rattle.feeding.proofs.FeedLaws.{any-feeding, any-resumed, resumed-accounted, cut-feeding, resumes-with}
+use Rattle.form.proofs.SavedLaws.{saved-right}
 use Rattle.acts.proofs.perform.Met as perform
 use Rattle.run.proofs.run.Met as run
+use Rattle.run.proofs.run_from.Met as run-from
 use Rattle.run.proofs.tekuravy_run.Met as tekuravy-run
 use Rattle.tape.proofs.chunk.start.Met as start
+use Rattle.tape.proofs.chunk.resume.Met as resume
 use Rattle.tape.proofs.chunk.feed.Met as feed
 use Rattle.tape.proofs.chunk.finish.Met as finish
-use Rattle.claims.specs.Demands.{Total, Exact, Accountable, Demands}
+use Rattle.saved.proofs.save.Met as save
+use Rattle.saved.proofs.load.Met as load
+use Rattle.claims.specs.Demands.{Total, Exact, Accountable, Resumed, Demands}
 
 total : Total
 total =
@@ -41,17 +50,36 @@ exact =
       perform = perform.met;
       run = run.met;
       tekuravy-run = tekuravy-run.met;
+      run-from = run-from.met;
       start = start.met;
+      resume = resume.met;
       feed = feed.met;
       finish = finish.met;
+      save = save.met;
+      load = load.met;
     }
 
 accountable : Accountable
 accountable =
     record {
       acts = demand-three;
+      begun = demand-three-from;
+      more = says-more;
+      resumed = resumes;
       tapes = any-feeding;
       wrong = wrong-chips-fail;
+    }
+
+resumed : Resumed
+resumed =
+    record {
+      begins = resumes-with;
+      answers = chip-answers;
+      tapes = any-resumed;
+      cut = cut-in-two;
+      cutFeeding = cut-feeding;
+      runs = tape-runs;
+      accounts = resumed-accounted;
     }
 
 pub demands : Demands
@@ -64,4 +92,6 @@ demands =
       latch = latch;
       leftoverBits = leftover-bits;
       repliesShown = replies-shown;
+      saved = saved-right;
+      resumed = resumed;
     }

@@ -13,6 +13,8 @@ use Rattle.record.specs.World.{World}
 use Rattle.refusals.specs.Rows.{TableGives}
 use Rattle.acts.specs.Act.{performed, refused}
 use Rattle.run.specs.Claim.{ourChip, DemandThree}
+use Rattle.run.specs.Begin.{DemandThreeFrom, Resumes}
+use Rattle.run.specs.Forgetful.{SaysMore}
 use Rattle.run.specs.Latch.{Latch}
 use Rattle.run.specs.Leftover.{LeftoverBits}
 use Rattle.run.specs.Stamps.{TimeStamps}
@@ -20,13 +22,19 @@ use Rattle.run.specs.Wrong.{WrongChipsFail}
 use Rattle.lines.specs.declared.Name.{Name}
 use Rattle.lines.specs.Request.{requestOf, asked, unknownName, Spelled}
 use Rattle.answers.specs.Answer.{Setup, lineAnswer, SevenRow, RepliesShown}
-use Rattle.feeding.specs.Feeding.{AnyFeeding}
+use Rattle.feeding.specs.Begin.{ResumesWith, ChipAnswers, CutInTwo, TapeRuns}
+use Rattle.feeding.specs.Feeding.{AnyFeeding, AnyResumed, ResumedAccounted, CutFeeding}
+use Rattle.form.specs.Claim.{SavedRight}
 use Rattle.acts.proofs.perform.Statement as perform
 use Rattle.run.proofs.run.Statement as run
+use Rattle.run.proofs.run_from.Statement as run-from
 use Rattle.run.proofs.tekuravy_run.Statement as tekuravy-run
 use Rattle.tape.proofs.chunk.start.Statement as start
+use Rattle.tape.proofs.chunk.resume.Statement as resume
 use Rattle.tape.proofs.chunk.feed.Statement as feed
 use Rattle.tape.proofs.chunk.finish.Statement as finish
+use Rattle.saved.proofs.save.Statement as save
+use Rattle.saved.proofs.load.Statement as load
 
 -- Demand 1, total: whatever the part, the act, its argument, the record and the memories are, there is an answer; and so of any line of bytes on a
 -- tape. `performed` is the definition of an act, `lineAnswer` that of a line; that code computes them and always ends is demand 2.
@@ -55,20 +63,46 @@ pub record Exact : Type 2 where
   -- crates/run/src/lib.rt. A list of acts on a fresh chip; and the same for a caller in another language
   pub run : {M : Type 1} → run.statement M
   pub tekuravy-run : {M : Type 1} → tekuravy-run.statement M
-  -- crates/tape/src/chunk.rt. A tape: before its first byte, a chunk of it, its end
+  -- the same file. A list of acts that begins with any record and memories; those that an act would be refused for are refused
+  pub run-from : {M : Type 1} → run-from.statement M
+  -- crates/tape/src/chunk.rt. A tape: before its first byte, without a part or with a chip that is there; a chunk of it, its end
   pub start : {M : Type 1} → start.statement M
+  pub resume : {M : Type 1} → resume.statement M
   pub feed : {M : Type 1} → feed.statement M
   pub finish : {M : Type 1} → finish.statement M
+  -- crates/saved/src/lib.rt. A chip as text, and from text
+  pub save : {M : Type 1} → save.statement M
+  pub load : {M : Type 1} → load.statement M
 
 -- Demand 3, accountable: after every list of acts on a fresh chip each EEPROM and ID byte is the one that the ledger gives, which is told the part, acts,
 -- arguments and ticks alone.
 pub record Accountable : Type 0 where
   pub acts : DemandThree ourChip
+  -- from any beginning: of a record in range, a frame open and a cycle running or not, the ledger is told the record once, at the beginning, and where it
+  -- has no entry the byte is the one that was there
+  pub begun : DemandThreeFrom ourChip
+  -- of any chip this gives the claim above, and it says more: a chip that loses a cycle with which it begins has that one and not this
+  pub more : SaysMore
+  -- and a run from fresh that is broken off and begun anew is accounted for as the whole run is
+  pub resumed : Resumes
   -- of every tape, fed in any way: what is written is its answers, it ends, and the ledger accounts for the memories, from the bytes of the tape and the
   -- bytes written
   pub tapes : AnyFeeding
   -- the claim is no empty one: six wrong chips do not have it
   pub wrong : WrongChipsFail
+
+-- A tape that begins with a chip that is there: what it begins with, how its lines are answered, every way to feed it; and that a tape may be cut in two at any
+-- line, the second piece beginning with what the first left.
+pub record Resumed : Type 0 where
+  pub begins : ResumesWith
+  pub answers : ChipAnswers
+  pub tapes : AnyResumed
+  pub cut : CutInTwo
+  pub cutFeeding : CutFeeding
+  pub runs : TapeRuns
+  -- demand 3, fed in any way: the ledger begins with that chip's record and is told what the bytes of the tape and the bytes written tell; where it has no
+  -- entry the byte is the one with which the tape began
+  pub accounts : ResumedAccounted
 
 -- R12. The three together, and of each change request what it promises of every act and every run.
 pub record Demands : Type 2 where
@@ -82,3 +116,8 @@ pub record Demands : Type 2 where
   -- the bits that an end answers of the exchange that it broke off; and a tape shows them
   pub leftoverBits : LeftoverBits
   pub repliesShown : RepliesShown
+  -- a chip in range as text, and back: what was saved is loaded as it was, what was loaded is saved as it was read, and a text is refused exactly with its
+  -- first bad line
+  pub saved : SavedRight
+  -- a tape that begins with a saved chip, and a run that is cut in two
+  pub resumed : Resumed

@@ -2,31 +2,45 @@
 -- from it again; one call feeds what it takes; and calls, one after another, feed the tape.
 -- Assumes nothing.
 use mathlib.Core.Path.{_≡_, refl, sym, ap, subst, _∙_}
-use mathlib.Core.Bool.{Bool, true, false, _&&_, and-false, true≢false}
-use mathlib.Core.List.{List, [], _∷_, _++_, append-assoc}
+use mathlib.Core.Bool.{Bool, true, false, not, _&&_, and-false, true≢false}
+use mathlib.Core.List.{List, [], _∷_, _++_, append-assoc, append-nil}
 use Prim.Native.Nat.{ℕ, zero, suc, _+_, _*_, _-_, _<_, _≤_}
 use native.Mathlib.Omega.{arith}
-use borrow.Author.Tests.{le-leb, le-ltb, leb-true, ltb-true, ltb-false}
+use borrow.Author.Tests.{le-leb, le-ltb, leb-true, ltb-true, ltb-false, eqb-true, not-true}
 use lib.Dec.{ltb, leb, eqb}
 use lib.ListN.{length, take, drop, length-append, length-take, length-drop, take-append-drop}
 use lib.Seq.{take-at, take-all, drop-at, take-take, length-take-le, sets-eq}
 use Rattle.base.proofs.OverLaws.{take-over, length-over}
 use Rattle.base.proofs.Tests.{by-cases, yes, no, pick-case, pick-when, both-left, both-right, both-true}
-use Rattle.record.specs.Part.{idSize}
+use Rattle.record.specs.declared.Device.{Device}
+use Rattle.record.specs.Part.{isPart, sizeOf, idSize}
+use Rattle.record.specs.World.{World, world, Bytes, Shaped}
 use Rattle.record.proofs.PartLaws.{size-most}
+use Rattle.refusals.specs.InRange.{InRange}
+use Rattle.refusals.proofs.RangeLaws.{in-range}
+use Rattle.refusals.proofs.TableLaws.{setup-passed}
+use Rattle.ledger.specs.State.{Step}
+use Rattle.ledger.specs.Steps.{ledgerRun}
+use Rattle.run.specs.Begin.{ledgerOf, AccountedFrom, DemandThreeFrom}
+use Rattle.run.specs.Claim.{Input, ourChip, worldAfter, stepsOf}
+use Rattle.run.proofs.BeginAgrees.{demand-three-from}
 use Rattle.text.specs.Bytes.{newline}
 use Rattle.text.specs.Buffer.{Buffer, append, roomIn}
 use Rattle.lines.specs.Print.{answerRoom}
-use Rattle.answers.specs.Answer.{ready, eepromRoom, eepromBytes, idBytes, setupIn}
+use Rattle.answers.specs.Answer.{Setup, setup, noPart, ready, eepromRoom, eepromBytes, idBytes, setupIn}
+use Rattle.answers.proofs.AnswerLaws.{ready-suits}
 use Rattle.answers.proofs.HeldLaws.{Sound, line-sound, held-setup}
 use Rattle.answers.proofs.BoundLaws.{SetupValid, answer-valid, answer-room}
-use Rattle.tape.specs.Tape.{State, state, headLimit, Fed, fedByte, ahead, fed, finished, ChunksJoin, FedByLines, takenWithin, putInto, takenFrom, Loan, loan, heldIn, stateIn, lending, Given, gives, feedInto, finishInto, tapeAnswers, emptySetup}
+use Rattle.tape.specs.Tape.{linesFrom, State, state, headLimit, Fed, fedTo, ended, fedByte, ahead, fed, finished, ChunksJoin, takenWithin, putInto, takenFrom, Loan, loan, heldIn, stateIn, lending, isTape, startTape, resumes, Given, gives, unchanged, feedInto, finishInto, tapeAnswers, emptySetup}
 use Rattle.tape.specs.declared.Tape.{Tape}
+use Rattle.feeding.specs.Told.{stepsTold}
 use Rattle.feeding.specs.Steps.{AccountsFor, toldBy, leftAfter, BytesAccounted}
-use Rattle.feeding.specs.Feeding.{Offer, wrote, Course, courseOf, lastCall, printed, getsOn, gettingOn, Begins, AnyFeeding, HasFed, EndsWhole}
-use Rattle.tape.proofs.TapeLaws.{fed-join, ahead-join, TapeFacts, tape-facts, facts-tape, tape-sound}
-use Rattle.feeding.proofs.WholeLaws.{toEnd, tape-whole, taken-within, taken-some}
+use Rattle.feeding.specs.Begin.{answersWith, leftWith, Begun, HasFed, ResumesWith, CutInTwo}
+use Rattle.feeding.specs.Feeding.{Offer, wrote, Course, courseOf, lastCall, printed, getsOn, gettingOn, Begins, AnyFeeding, AnyResumed, ResumedAccounted, CutFeeding, EndsWhole}
+use Rattle.tape.proofs.TapeLaws.{fed-join, ahead-join, TapeFacts, tape-facts, facts-tape}
+use Rattle.feeding.proofs.WholeLaws.{linesFed, toEnd, fed-lines, answers-lines, setup-lines, taken-within, taken-some}
 use Rattle.feeding.proofs.LedgerLaws.{bytes-accounted}
+use Rattle.feeding.proofs.BeginLaws.{cut-in-two, tape-owed}
 
 -- a state that a tape comes to: its setup is sound and its chip valid, and no more is kept of a line than tells that it is too long
 pub record Fine (s : State) : Type 0 where
@@ -150,6 +164,7 @@ one-call l chunk o g =
 
 -- The last one feeds the end of the tape.
 pub record Finished (l : Loan) (o : Buffer) (g : Given) : Type 0 where
+  pub good : Good (g .after)
   pub after : stateIn (g .after) ≡ finished (stateIn l) .after
   pub wrote : wrote o (g .written) ≡ finished (stateIn l) .answers
 
@@ -160,6 +175,7 @@ last-call l o g r =
     let f = finished-fine s (g .fine) in
     subst (Finished l o) (yes (gives l (putInto o 0 (finished s))) _ (both-true (facts-tape l (g .facts)) (le-leb answerRoom (roomIn o) r)))
     (record {
+      good = laid-good l (finished s .after) g f;
       after = laid-state l (finished s .after) f;
       wrote = wrote-text o (finished s .answers) (omega (arith, finished-room s (g .fine)));
     })
@@ -231,7 +247,86 @@ ends-by (x ∷ xs) l left g h =
     (λ t. omega (arith, length-drop k left, rw t at h)) in
     ends-by xs (feedInto l (take (x .size) left) (x .into) .after) _ (o .good) less
 
--- What a tape begins with is good: it has no part, so nothing is asked of its chip.
+-- What a tape may begin with is a fine state before its first line; and a fine state's setup is one.
+begun-fine : (s : Setup) → Begun s → Fine (state s [])
+begun-fine s b =
+    record {
+      sound = record { goes = b .goes; eeprom = b .eeprom; id = b .id };
+      valid =
+          λ e.
+          let k = setup-passed (s .part) (s .chip .device) (sizeOf (s .part)) idSize (ready-suits (s .part) (s .chip .device) _ _ e (b .goes) refl refl) in
+          record { range = in-range (s .part) (s .chip .device) (k .ranged); shaped = b .shaped e };
+      short = omega arith;
+    }
+
+fine-begun : (s : State) → Fine s → Begun (s .setup)
+fine-begun s f = record { goes = f .sound .goes; eeprom = f .sound .eeprom; id = f .sound .id; shaped = λ e. f .valid e .shaped }
+
+has-good : (s : Setup) (l : Loan) (bytes : List ℕ) → HasFed s l bytes → Good l
+has-good s l bytes h =
+    record { facts = tape-facts l (h .tape); fine = subst Fine (sym (h .reached)) (fed-fine bytes (state s []) (begun-fine s (h .begun))) }
+
+-- Calls, from what a tape begins with.
+pub any-resumed : AnyResumed
+unfolding AnyResumed fed
+any-resumed s l h bytes xs =
+    let g = has-good s l [] h in
+    let c = courseOf l bytes xs in
+    let r = runs xs l bytes g in
+    let t = stateIn (c .loan) in
+    let lines : toEnd (fed (stateIn l) bytes) ≡ linesFed s (linesFrom [] bytes) =
+    ap (λ (x : State). toEnd (fed x bytes)) (h .reached) ∙ fed-lines bytes s [] in
+    let end : c .left ≡ [] → ahead (c .written) (finished t) ≡ linesFed s (linesFrom [] bytes) =
+    λ z. ap (λ (y : List ℕ). ahead (c .written) (toEnd (fed t y))) (sym z) ∙ r .whole ∙ lines in
+    record {
+      ends = ends-by xs l bytes g;
+      begins = (toEnd (fed t (c .left)) .answers, ap (λ (f : Fed). f .answers) (r .whole ∙ lines));
+      whole =
+          λ z o m. ap (λ (x : List ℕ). c .written ++ x) (last-call (c .loan) o (r .good) m .wrote) ∙ ap (λ (f : Fed). f .answers) (end z);
+      leaves =
+          λ z o m.
+          let k = last-call (c .loan) o (r .good) m in
+          let e : stateIn (lastCall c o .after) ≡ state (leftWith s bytes) [] = k .after ∙ ap (λ (f : Fed). f .after) (end z) in
+          record {
+            begun = subst (λ (x : State). Begun (x .setup)) e (fine-begun (stateIn (lastCall c o .after)) (k .good .fine));
+            tape = facts-tape (lastCall c o .after) (k .good .facts);
+            reached = e;
+          };
+    }
+
+-- What is owed after every run of acts from a chip is owed of the memories that are lent at last, by the bytes of the tape and the bytes written.
+module _
+    (Owed : ℕ → World → World → List Step → Type 0)
+    (owed :
+    (part : ℕ) → isPart part ≡ true → (s : World) → InRange part (s .device) → Shaped part s → (xs : List Input)
+    → Owed part s (worldAfter ourChip part xs s) (stepsOf ourChip part xs s))
+  where
+    pub feeding-owed :
+        (s : Setup) (l : Loan) → HasFed s l [] → noPart s ≡ false → (bytes : List ℕ) (xs : List Offer) → courseOf l bytes xs .left ≡ [] → (o : Buffer)
+        → answerRoom ≤ roomIn o
+        → Owed (s .part) (s .chip) (setupIn (heldIn (lastCall (courseOf l bytes xs) o .after)) .chip)
+        (stepsTold (linesFrom [] bytes) (linesFrom [] (printed (courseOf l bytes xs) o)))
+    unfolding AnyResumed fed
+    feeding-owed s l h f bytes xs z o m =
+        let r = any-resumed s l h bytes xs in
+        let c = courseOf l bytes xs in
+        subst (λ (x : List ℕ). Owed (s .part) (s .chip) (setupIn (heldIn (lastCall c o .after)) .chip) (stepsTold (linesFrom [] bytes) (linesFrom [] x))) (sym (r .whole z o m))
+        (subst (λ (x : State). Owed (s .part) (s .chip) (x .setup .chip) (stepsTold (linesFrom [] bytes) (linesFrom [] (answersWith s bytes)))) (sym (r .leaves z o m .reached))
+        (tape-owed Owed owed s (h .begun) f bytes))
+
+-- demand 3 is owed so
+pub resumed-accounted : ResumedAccounted
+unfolding DemandThreeFrom ResumedAccounted
+resumed-accounted =
+    feeding-owed (λ part s w steps. AccountedFrom part s w (ledgerRun part steps (ledgerOf (s .device)))) demand-three-from
+
+-- a tape that is cut in two at a line
+pub cut-feeding : CutFeeding
+unfolding CutFeeding AnyResumed CutInTwo
+cut-feeding s a b c l m xs ys h k y z o p n q =
+    (λ i. any-resumed s l h a xs .whole y o n i ++ any-resumed (leftWith s a) m k b ys .whole z p q i) ∙ sym (cut-in-two s a b c .answers)
+
+-- What a tape begins with that `start` answered: it has no part, so nothing is asked of its chip.
 begins-facts : (l : Loan) → Begins l → TapeFacts l
 unfolding ready
 begins-facts l b =
@@ -241,78 +336,129 @@ begins-facts l b =
       goes = ap (λ (t : Tape). ready (t .part) (t .device)) (b .tape);
     }
 
-begins-good : (l : Loan) → Begins l → Good l
-begins-good l b =
-    let f = begins-facts l b in
-    record {
-      facts = f;
-      fine =
-          record {
-            sound = tape-sound l f;
-            valid = λ e. absurd (true≢false (sym (ap (λ (t : Tape). eqb (t .part) 0) (b .tape)) ∙ e));
-            short = simp length-take (omega arith);
-          };
-    }
-
 begins-state : (l : Loan) → Begins l → stateIn l ≡ state emptySetup []
 begins-state l b = ap (λ (t : Tape). stateIn (loan t (l .line) (l .eeprom) (l .id))) (b .tape)
 
+empty-begun : Begun emptySetup
+unfolding ready
+empty-begun = record { goes = refl; eeprom = refl; id = refl; shaped = λ e. absurd (true≢false e) }
+
+pub has-start : (l : Loan) → Begins l → HasFed emptySetup l []
+unfolding fed
+has-start l b = record { begun = empty-begun; tape = facts-tape l (begins-facts l b); reached = begins-state l b }
+
 pub any-feeding : AnyFeeding
-unfolding AnyFeeding FedByLines BytesAccounted fed
+unfolding AnyFeeding AnyResumed BytesAccounted tapeAnswers fed
 any-feeding l b bytes xs =
-    let g = begins-good l b in
     let c = courseOf l bytes xs in
-    let r = runs xs l bytes g in
-    let s = stateIn (c .loan) in
-    let start : toEnd (fed (stateIn l) bytes) ≡ toEnd (fed (state emptySetup []) bytes) = ap (λ (x : State). toEnd (fed x bytes)) (begins-state l b) in
-    let answers : toEnd (fed (stateIn l) bytes) .answers ≡ tapeAnswers bytes = ap (λ (f : Fed). f .answers) start ∙ tape-whole (emptySetup .chip) bytes in
-    let end : c .left ≡ [] → ahead (c .written) (finished s) ≡ toEnd (fed (stateIn l) bytes) =
-    λ z. ap (λ (y : List ℕ). ahead (c .written) (toEnd (fed s y))) (sym z) ∙ r .whole in
-    let whole : c .left ≡ [] → (o : Buffer) → answerRoom ≤ roomIn o → printed c o ≡ tapeAnswers bytes =
-    λ z o h.
-    ap (λ (x : List ℕ). c .written ++ x) (last-call (c .loan) o (r .good) h .wrote) ∙ ap (λ (f : Fed). f .answers) (end z) ∙ answers in
+    let r = any-resumed emptySetup l (has-start l b) bytes xs in
     let left : c .left ≡ [] → (o : Buffer) → answerRoom ≤ roomIn o → setupIn (heldIn (lastCall c o .after)) ≡ leftAfter (emptySetup .chip) bytes =
-    λ z o h. ap (λ (x : State). x .setup) (last-call (c .loan) o (r .good) h .after) ∙ ap (λ (f : Fed). f .after .setup) (end z ∙ start) in
+    λ z o h. ap (λ (x : State). x .setup) (r .leaves z o h .reached) ∙ sym (setup-lines bytes emptySetup []) in
     record {
-      ends = ends-by xs l bytes g;
-      begins = (toEnd (fed s (c .left)) .answers, ap (λ (f : Fed). f .answers) (r .whole) ∙ answers);
-      whole = whole;
+      ends = r .ends;
+      begins = r .begins;
+      whole = r .whole;
       accounts =
           λ z o h.
-          subst (λ (x : List ℕ). AccountsFor (toldBy bytes x) (setupIn (heldIn (lastCall c o .after)))) (sym (whole z o h))
+          subst (λ (x : List ℕ). AccountsFor (toldBy bytes x) (setupIn (heldIn (lastCall c o .after)))) (sym (r .whole z o h))
           (subst (AccountsFor (toldBy bytes (tapeAnswers bytes))) (sym (left z o h)) (bytes-accounted bytes (emptySetup .chip)));
     }
 
--- How far a caller is that reads piece by piece: at first nothing is fed; a call feeds what it takes of its chunk, and where it has room that is all
--- of it.
-empty-fine : Fine (state emptySetup [])
-unfolding ready
-empty-fine = record { sound = record { goes = refl; eeprom = refl; id = refl }; valid = λ e. absurd (true≢false e); short = omega arith }
+-- What `resume` answers begins a tape.
+take-bytes : (n : ℕ) (l : List ℕ) → Bytes l → Bytes (take n l)
+take-bytes zero l b k = omega arith
+take-bytes (suc n) [] b k = b k
+take-bytes (suc n) (x ∷ l) b zero = b 0
+take-bytes (suc n) (x ∷ l) b (suc k) = take-bytes n l (λ j. b (suc j)) k
 
-has-good : (l : Loan) (bytes : List ℕ) → HasFed l bytes → Good l
-has-good l bytes h = record { facts = tape-facts l (h .tape); fine = subst Fine (sym (h .reached)) (fed-fine bytes (state emptySetup []) empty-fine) }
+resume-known : (part : ℕ) (d : Device) (ee id : ℕ) → resumes part d ee id ≡ true → (eqb part 0 ≡ false) × (ready part d ≡ true) × (ee ≡ eepromRoom) × (id ≡ idSize)
+unfolding resumes
+resume-known part d ee id t =
+    let n = not (eqb part 0) in
+    let e = both-right (n && ready part d) (eqb ee eepromRoom && eqb id idSize) t in
+    let k = both-left (n && ready part d) (eqb ee eepromRoom && eqb id idSize) t in (
+      not-true (eqb part 0) (both-left n (ready part d) k),
+      both-right n (ready part d) k,
+      eqb-true ee eepromRoom (both-left (eqb ee eepromRoom) (eqb id idSize) e),
+      eqb-true id idSize (both-right (eqb ee eepromRoom) (eqb id idSize) e),
+    )
 
-pub has-start : (l : Loan) → Begins l → HasFed l []
-unfolding fed
-has-start l b = record { tape = facts-tape l (begins-facts l b); reached = begins-state l b }
+pub resumes-with : ResumesWith
+unfolding ResumesWith fed
+resumes-with part d line ee id t n r =
+    let k = resume-known part d (length ee) (length id) r in
+    let l : Loan = loan (record { part = part; device = d; begun = 0 }) line ee id in
+    let s : Setup = setup part (world d (take (sizeOf part) ee) (take idSize id)) in
+    let m : sizeOf part ≤ length ee = omega (arith, size-most part, k .2) in
+    let i : idSize ≤ length id = omega (arith, k .3) in
+    let a : length (s .chip .eeprom) ≡ sizeOf part = length-take-le (sizeOf part) ee m in
+    let b : length (s .chip .id) ≡ idSize = length-take-le idSize id i in
+    subst (λ (x : Tape). HasFed s (loan x line ee id) []) (yes (l .tape) startTape r)
+    (record {
+      begun =
+          record {
+            goes = k .1;
+            eeprom = a ∙ no 0 (sizeOf part) (k .0);
+            id = b ∙ no 0 idSize (k .0);
+            shaped =
+                λ e.
+                record { sized = t .sized; eeprom = a; id = b; eepromBytes = take-bytes (sizeOf part) ee (t .eeprom); idBytes = take-bytes idSize id (t .id) };
+          };
+      tape =
+          facts-tape l
+          (record { headed = record { size = n; within = omega arith }; lent = record { eeprom = k .2; id = k .3 }; goes = k .1 });
+      reached = λ j. state (setup part (world d (take (sym (no 0 (sizeOf part) (k .0)) j) ee) (take (sym (no 0 idSize (k .0)) j) id))) [];
+    })
 
-pub has-more : (l : Loan) (bytes chunk : List ℕ) (o : Buffer) → HasFed l bytes → HasFed (feedInto l chunk o .after) (bytes ++ take (feedInto l chunk o .count) chunk)
+-- How far a caller is that reads piece by piece: a call feeds what it takes of its chunk, and where it has room that is all of it.
+pub has-more :
+    (s : Setup) (l : Loan) (bytes chunk : List ℕ) (o : Buffer) → HasFed s l bytes
+    → HasFed s (feedInto l chunk o .after) (bytes ++ take (feedInto l chunk o .count) chunk)
 unfolding ChunksJoin
-has-more l bytes chunk o h =
-    let c = one-call l chunk o (has-good l bytes h) in
+has-more s l bytes chunk o h =
+    let c = one-call l chunk o (has-good s l bytes h) in
     let k = take (feedInto l chunk o .count) chunk in
     record {
+      begun = h .begun;
       tape = facts-tape _ (c .good .facts);
-      reached =
-          c .after ∙ ap (λ (s : State). fed s k .after) (h .reached) ∙ sym (ap (λ (f : Fed). f .after) (fed-join (state emptySetup []) bytes k));
+      reached = c .after ∙ ap (λ (x : State). fed x k .after) (h .reached) ∙ sym (ap (λ (f : Fed). f .after) (fed-join (state s []) bytes k));
     }
 
+-- the end of a tape leads where a last newline leads
+finished-fed : (s : State) → (piece : List ℕ) × (finished s .after ≡ fed s piece .after)
+unfolding finished fed
+finished-fed s =
+    by-cases (eqb (length (s .begun)) 0)
+    (λ t. ([], ap (λ (f : Fed). f .after) (sym (yes (fedTo s []) (ended s) t))))
+    (λ t. (newline ∷ [], ap (λ (f : Fed). f .after) (sym (no (fedTo s []) (ended s) t))))
+
+pub has-ended :
+    (s : Setup) (l : Loan) (bytes : List ℕ) (o : Buffer) → HasFed s l bytes → (piece : List ℕ) × HasFed s (finishInto l o .after) (bytes ++ piece)
+unfolding finishInto ChunksJoin
+has-ended s l bytes o h =
+    let t = isTape l && leb answerRoom (roomIn o) in
+    by-cases t
+    (λ e.
+    let c = last-call l o (has-good s l bytes h) (leb-true answerRoom (roomIn o) (both-right (isTape l) (leb answerRoom (roomIn o)) e)) in
+    let p = finished-fed (stateIn l) in (
+      p .0,
+      record {
+        begun = h .begun;
+        tape = facts-tape (finishInto l o .after) (c .good .facts);
+        reached =
+            c .after ∙ p .1 ∙ ap (λ (x : State). fed x (p .0) .after) (h .reached)
+            ∙ sym (ap (λ (f : Fed). f .after) (fed-join (state s []) bytes (p .0)));
+      },
+    ))
+    (λ e.
+    ([], subst (λ (g : Given). HasFed s (g .after) (bytes ++ [])) (no _ (unchanged l o) e) (subst (HasFed s l) (sym (append-nil bytes)) h)))
+
 pub ends-whole : EndsWhole
-unfolding EndsWhole FedByLines
-ends-whole l bytes h o r =
-    let s = fed (state emptySetup []) bytes in
-    ap (λ (x : List ℕ). s .answers ++ x) (last-call l o (has-good l bytes h) r .wrote ∙ ap (λ (x : State). finished x .answers) (h .reached))
-    ∙ tape-whole (emptySetup .chip) bytes
+unfolding EndsWhole
+ends-whole s l bytes h o r =
+    let f = fed (state s []) bytes in
+    ap (λ (x : List ℕ). f .answers ++ x) (last-call l o (has-good s l bytes h) r .wrote ∙ ap (λ (x : State). finished x .answers) (h .reached))
+    ∙ answers-lines bytes s []
 
 -- A call whose buffer has room for an answer to each byte of its chunk takes the chunk whole.
 taken-all : (bytes : List ℕ) (room : ℕ) (s : State) → Fine s → answerRoom * length bytes ≤ room → takenWithin room s bytes ≡ length bytes
@@ -327,23 +473,23 @@ taken-all (b ∷ bytes) room s f r =
     ∙ ap suc (taken-all bytes (room - length a) (fedByte b s .after) (byte-fine b s f) (omega arith))
 
 call-whole :
-    (l : Loan) (bytes chunk : List ℕ) (o : Buffer) → HasFed l bytes → answerRoom * length chunk ≤ roomIn o → take (feedInto l chunk o .count) chunk ≡ chunk
+    (s : Setup) (l : Loan) (bytes chunk : List ℕ) (o : Buffer) → HasFed s l bytes → answerRoom * length chunk ≤ roomIn o → take (feedInto l chunk o .count) chunk ≡ chunk
 unfolding feedInto takenFrom
-call-whole l bytes chunk o h r =
-    let g = has-good l bytes h in
+call-whole s l bytes chunk o h r =
+    let g = has-good s l bytes h in
     let e = taken-all chunk (roomIn o) (stateIn l) (g .fine) r in
     subst (λ (x : Given). take (x .count) chunk ≡ chunk) (yes (gives l (takenFrom (stateIn l) chunk o)) _ (facts-tape l (g .facts)))
     (take-all (takenWithin (roomIn o) (stateIn l) chunk) chunk (omega (arith, e)))
 
 pub has-all :
-    (l : Loan) (bytes chunk : List ℕ) (o : Buffer) → HasFed l bytes → answerRoom * length chunk ≤ roomIn o
-    → HasFed (feedInto l chunk o .after) (bytes ++ chunk)
-has-all l bytes chunk o h r =
-    subst (λ (x : List ℕ). HasFed (feedInto l chunk o .after) (bytes ++ x)) (call-whole l bytes chunk o h r) (has-more l bytes chunk o h)
+    (s : Setup) (l : Loan) (bytes chunk : List ℕ) (o : Buffer) → HasFed s l bytes → answerRoom * length chunk ≤ roomIn o
+    → HasFed s (feedInto l chunk o .after) (bytes ++ chunk)
+has-all s l bytes chunk o h r =
+    subst (λ (x : List ℕ). HasFed s (feedInto l chunk o .after) (bytes ++ x)) (call-whole s l bytes chunk o h r) (has-more s l bytes chunk o h)
 
 -- and what it wrote are the answers
 pub wrote-all :
-    (l : Loan) (bytes chunk : List ℕ) (o : Buffer) → HasFed l bytes → answerRoom * length chunk ≤ roomIn o
+    (s : Setup) (l : Loan) (bytes chunk : List ℕ) (o : Buffer) → HasFed s l bytes → answerRoom * length chunk ≤ roomIn o
     → wrote o (feedInto l chunk o .written) ≡ fed (stateIn l) chunk .answers
-wrote-all l bytes chunk o h r =
-    one-call l chunk o (has-good l bytes h) .wrote ∙ ap (λ (x : List ℕ). fed (stateIn l) x .answers) (call-whole l bytes chunk o h r)
+wrote-all s l bytes chunk o h r =
+    one-call l chunk o (has-good s l bytes h) .wrote ∙ ap (λ (x : List ℕ). fed (stateIn l) x .answers) (call-whole s l bytes chunk o h r)

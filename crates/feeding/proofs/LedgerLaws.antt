@@ -33,12 +33,12 @@ use Rattle.feeding.proofs.WholeLaws.{setup-lines, before-any}
 use Rattle.feeding.proofs.ToldLaws.{charsOf, chars-out, answerLines, answers-cut}
 
 -- the acts that lines name
-abbrev inputOf : Request → List Input
+abbrev pub inputOf : Request → List Input
 inputOf (PartLine arg) = []
 inputOf (ActLine act arg) = record { act = act; arg = arg } ∷ []
 inputOf Bad = []
 
-unfoldable actsOf : List (List ℕ) → List Input
+unfoldable pub actsOf : List (List ℕ) → List Input
 actsOf [] = []
 actsOf (line ∷ lines) = inputOf (requestOf line) ++ actsOf lines
 
@@ -80,7 +80,7 @@ module _ (part : ℕ) (some : eqb part 0 ≡ false) where
   line-steps Bad w = refl
 
   -- and so do lines
-  lines-setup : (lines : List (List ℕ)) (w : World) → setupAfter (setup part w) lines ≡ setup part (worldAfter ourChip part (actsOf lines) w)
+  pub lines-setup : (lines : List (List ℕ)) (w : World) → setupAfter (setup part w) lines ≡ setup part (worldAfter ourChip part (actsOf lines) w)
   unfolding setupAfter actsOf lineAnswer worldAfter
   lines-setup [] w = refl
   lines-setup (line ∷ lines) w =
@@ -88,7 +88,7 @@ module _ (part : ℕ) (some : eqb part 0 ≡ false) where
       ∙ lines-setup lines (worldAfter ourChip part (inputOf (requestOf line)) w)
       ∙ ap (setup part) (sym (after-append ourChip part (inputOf (requestOf line)) (actsOf lines) w))
 
-  lines-steps :
+  pub lines-steps :
       (lines : List (List ℕ)) (w : World) → stepsTold lines (answerLines (setup part w) lines) ≡ stepsOf ourChip part (actsOf lines) w
   unfolding stepsTold answerLines actsOf lineAnswer stepsOf
   lines-steps [] w = refl

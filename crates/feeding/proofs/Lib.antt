@@ -1,5 +1,6 @@
 pub mod WholeLaws
 pub mod ToldLaws
 pub mod LedgerLaws
+pub mod BeginLaws
 pub mod FeedLaws
 pub mod WholeCaseLaws

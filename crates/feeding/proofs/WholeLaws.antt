@@ -24,7 +24,7 @@ use Rattle.feeding.specs.Steps.{setupAfter}
 use Rattle.tape.proofs.TapeLaws.{ahead-join, head-join, head-answers}
 
 -- what lines answer, and what is left after them
-abbrev linesFed : Setup → List (List ℕ) → Fed
+abbrev pub linesFed : Setup → List (List ℕ) → Fed
 linesFed s lines = fedTo (state (setupAfter s lines) []) (answersTo s lines)
 
 -- the end of a tape answers its last line
@@ -41,12 +41,12 @@ abbrev pub toEnd : Fed → Fed
 toEnd f = ahead (f .answers) (finished (f .after))
 
 -- what holds of both answers of two choices by one test
-pick-both : {A B : Type 0} (P : A → B → Type 0) (t : Bool) {a b : A} {c d : B} → P a c → P b d → P (pick t a b) (pick t c d)
+pub pick-both : {A B : Type 0} (P : A → B → Type 0) (t : Bool) {a b : A} {c d : B} → P a c → P b d → P (pick t a b) (pick t c d)
 pick-both P true p q = p
 pick-both P false p q = q
 
 -- fed byte by byte and ended, a tape answers and leaves what its lines do
-fed-lines : (bytes : List ℕ) (s : Setup) (b : List ℕ) → toEnd (fed (state s (head b)) bytes) ≡ linesFed s (linesFrom b bytes)
+pub fed-lines : (bytes : List ℕ) (s : Setup) (b : List ℕ) → toEnd (fed (state s (head b)) bytes) ≡ linesFed s (linesFrom b bytes)
 unfolding setupAfter answersTo fed linesFrom
 fed-lines [] s b = last-fed s b
 fed-lines (x ∷ bytes) s b =

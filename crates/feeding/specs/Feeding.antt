@@ -4,16 +4,20 @@
 -- Assumes nothing.
 use Prim.Native.Nat.{ℕ, suc, _-_, _≤_}
 use mathlib.Core.Path.{_≡_}
-use mathlib.Core.Bool.{Bool, true, _&&_}
+use mathlib.Core.Bool.{Bool, false, _&&_}
 use mathlib.Core.List.{List, [], _∷_, _++_}
 use lib.Dec.{ltb, leb}
 use lib.ListN.{length, take, drop}
 use Rattle.base.specs.Words.{pick}
+use Rattle.ledger.specs.Steps.{ledgerRun}
+use Rattle.run.specs.Begin.{ledgerOf, AccountedFrom}
 use Rattle.text.specs.Buffer.{Buffer, roomIn}
 use Rattle.lines.specs.Print.{answerRoom}
-use Rattle.answers.specs.Answer.{setupIn}
-use Rattle.tape.specs.Tape.{emptySetup, tapeAnswers, state, fed, Loan, heldIn, stateIn, isTape, startTape, Given, feedInto, finishInto}
+use Rattle.answers.specs.Answer.{Setup, noPart, setupIn}
+use Rattle.tape.specs.Tape.{linesFrom, tapeAnswers, state, fed, Loan, heldIn, startTape, Given, feedInto, finishInto}
+use Rattle.feeding.specs.Told.{stepsTold}
 use Rattle.feeding.specs.Steps.{AccountsFor, toldBy}
+use Rattle.feeding.specs.Begin.{answersWith, leftWith, HasFed, AtLine}
 
 -- a call of `feed`: how many bytes of what is left it is offered, and the buffer for its answers
 pub record Offer : Type 0 where
@@ -78,15 +82,39 @@ pub record FeedsWell (l : Loan) (bytes : List ℕ) (xs : List Offer) : Type 0 wh
 unfoldable pub AnyFeeding : Type 0
 AnyFeeding = (l : Loan) → Begins l → (bytes : List ℕ) (xs : List Offer) → FeedsWell l bytes xs
 
--- How a caller that feeds piece by piece says how far it is: what is lent holds the state that these bytes of a tape lead to. Other bytes may lead to
--- it too, since a refused line changes nothing; so such a caller also has to tell what was answered.
-pub record HasFed (l : Loan) (bytes : List ℕ) : Type 0 where
-  pub tape : isTape l ≡ true
-  pub reached : stateIn l ≡ fed (state emptySetup []) bytes .after
+-- The same of a tape that begins with a setup, from what is lent at first. What is lent at last begins the next tape.
+pub record FeedsFrom (s : Setup) (l : Loan) (bytes : List ℕ) (xs : List Offer) : Type 0 where
+  pub ends : length bytes ≤ gettingOn xs → courseOf l bytes xs .left ≡ []
+  pub begins : (rest : List ℕ) × (courseOf l bytes xs .written ++ rest ≡ answersWith s bytes)
+  pub whole : courseOf l bytes xs .left ≡ [] → (o : Buffer) → answerRoom ≤ roomIn o → printed (courseOf l bytes xs) o ≡ answersWith s bytes
+  pub leaves :
+      courseOf l bytes xs .left ≡ [] → (o : Buffer) → answerRoom ≤ roomIn o
+      → HasFed (leftWith s bytes) (lastCall (courseOf l bytes xs) o .after) []
 
--- R9. If it then calls `finish`, with room for an answer, what that writes stands behind the answers to those bytes, and the two are the answers to the
--- whole tape.
+-- R21. So it is for every setup that a tape may begin with, every tape and every list of calls.
+unfoldable pub AnyResumed : Type 0
+AnyResumed = (s : Setup) (l : Loan) → HasFed s l [] → (bytes : List ℕ) (xs : List Offer) → FeedsFrom s l bytes xs
+
+-- R8. Demand 3 of a tape that begins with a chip, however it is fed: the ledger (01's term) begins with that chip's record and is told what the bytes of the tape
+-- and the bytes written tell; each byte of the memories that are lent at last is the one that it gives, else the byte with which the tape began.
+unfoldable pub ResumedAccounted : Type 0
+ResumedAccounted =
+    (s : Setup) (l : Loan) → HasFed s l [] → noPart s ≡ false → (bytes : List ℕ) (xs : List Offer) → courseOf l bytes xs .left ≡ [] → (o : Buffer)
+    → answerRoom ≤ roomIn o
+    → AccountedFrom (s .part) (s .chip) (setupIn (heldIn (lastCall (courseOf l bytes xs) o .after)) .chip)
+    (ledgerRun (s .part) (stepsTold (linesFrom [] bytes) (linesFrom [] (printed (courseOf l bytes xs) o))) (ledgerOf (s .chip .device)))
+
+-- R22. A run that is cut in two at a line: what the two feedings write, one after the other, are the answers to the whole tape. The second may be lent anything
+-- that holds what the first left: the same bytes, or others into which a saved chip was loaded.
+unfoldable pub CutFeeding : Type 0
+CutFeeding =
+    (s : Setup) (a b : List ℕ) → AtLine a → (l m : Loan) (xs ys : List Offer) → HasFed s l [] → HasFed (leftWith s a) m []
+    → courseOf l a xs .left ≡ [] → courseOf m b ys .left ≡ [] → (o p : Buffer) → answerRoom ≤ roomIn o → answerRoom ≤ roomIn p
+    → printed (courseOf l a xs) o ++ printed (courseOf m b ys) p ≡ answersWith s (a ++ b)
+
+-- R9. If a caller that feeds piece by piece calls `finish`, with room for an answer, what that writes stands behind the answers to the bytes that were fed, and
+-- the two are the answers to the whole tape.
 unfoldable pub EndsWhole : Type 0
 EndsWhole =
-    (l : Loan) (bytes : List ℕ) → HasFed l bytes → (o : Buffer) → answerRoom ≤ roomIn o
-    → fed (state emptySetup []) bytes .answers ++ wrote o (finishInto l o .written) ≡ tapeAnswers bytes
+    (s : Setup) (l : Loan) (bytes : List ℕ) → HasFed s l bytes → (o : Buffer) → answerRoom ≤ roomIn o
+    → fed (state s []) bytes .answers ++ wrote o (finishInto l o .written) ≡ answersWith s bytes

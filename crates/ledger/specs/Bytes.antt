@@ -63,7 +63,8 @@ sameMemory eeprom id = false
 sameMemory id eeprom = false
 sameMemory id id = true
 
--- L16, A36. The byte of a place: that of its newest entry. With no entry it is the first argument, FFh in every run.
+-- L16, A36. The byte of a place: that of its newest entry. With no entry it is the first argument: FFh in every run from fresh, the byte that was there in
+-- one that begins at work.
 unfoldable pub byteOf : ℕ → Memory → ℕ → List Entry → ℕ
 byteOf before m p [] = before
 byteOf before m p (e ∷ es) = pick (sameMemory m (e .memory) && eqb p (e .place)) (e .byte) (byteOf before m p es)

@@ -1,21 +1,40 @@
-// What --help tells, in six pieces, and --version. A text is written as it stands. Each function answers whether standard
+// What --help tells, in seven pieces, and --version. A text is written as it stands. Each function answers whether standard
 // output took it.
 
 fn print_use() -> bool {
     io::write_all(
         libc::STDOUT_FILENO,
-        b"Use: mcp795 [TAPE...]
+        b"Use: mcp795 [--load FILE] [--save FILE] [TAPE...]
 
 Answers each tape as an MCP795XX clock chip would. A TAPE is a file, or - for
 standard input. With no TAPE, standard input is the tape. Each tape starts
 without a part.
 
-    -h, --help  writes this text
-    --version   writes the version, and the kit that it was proved with
-    --          after it every argument is a TAPE, whatever it begins with
+    --load FILE  the tape starts with the chip that was saved in FILE
+    --save FILE  saves the chip in FILE after the last line of the tape
+    -h, --help   writes this text
+    --version    writes the version, and the kit that it was proved with
+    --           after it every argument is a TAPE, whatever it begins with
 
-The first option is obeyed, wherever it stands before --, and no tape is
-answered. Where - is named twice, the second gets what is left of the input.
+Of the last options but -- the first is obeyed, wherever it stands before --,
+and no tape is answered. Where - is named twice, the second gets what is left of
+the input.
+",
+    )
+}
+
+fn print_files() -> bool {
+    io::write_all(
+        libc::STDOUT_FILENO,
+        b"
+With --load or --save there is one tape at most. A tape that starts with a saved
+chip has its part: every line that names one is refused. A FILE that is no saved
+chip is refused by 8, with its first bad line, and the tape is not answered.
+
+A chip is saved once its tape was read and answered to its end. It is written
+into a new file, FILE.new0 or the next free digit, which then takes FILE's name.
+Whatever fails, the old FILE stays as it was. That FILE can be replaced is tried
+before the tape is answered.
 ",
     )
 }
@@ -112,6 +131,9 @@ is 128 and the signal's number where a signal ended the program.
 
 pub fn print() -> bool {
     if !print_use() {
+        return false;
+    }
+    if !print_files() {
         return false;
     }
     if !print_form() {

@@ -1,5 +1,7 @@
 // Tapes in, answers out. What a tape answers is the tape crate's; the program only reads and writes.
+mod file; // file.rt: a small file, read or replaced
 mod help; // help.rt: what --help and --version tell
+mod keep; // keep.rt: a tape whose chip comes from a file or goes into one
 mod run; // run.rt: one tape, from a descriptor to standard output
 
 ghost use Rattle.io.specs.Counts.{Counts};
@@ -9,6 +11,21 @@ struct Named {
     options: bool,
     tapes: bool,
     open: bool,
+}
+
+// What the options and tapes are, by the places of arguments, 0 where there is none: the files of --load and --save, the last tape, an option that is obeyed
+// before any tape is answered, and one that stands twice; whether the next argument is a file, whether an option may still come, and whether there are
+// several tapes.
+struct Asked {
+    load: usize,
+    save: usize,
+    tape: usize,
+    obeyed: usize,
+    twice: usize,
+    load_next: bool,
+    save_next: bool,
+    options: bool,
+    several: bool,
 }
 
 // How many bytes are shown of an argument that is too long to be taken.
@@ -65,17 +82,20 @@ pub fn tell(what: &[u8]) {
     os::fail(b"");
 }
 
-fn tell_argument(i: usize) {
+// The same with a text of our own.
+pub fn tell_text(what: &[u8], text: &[u8]) {
+    begin_line(what);
+    io::write_all(libc::STDERR_FILENO, text);
+}
+
+pub fn tell_argument(i: usize) {
     begin_with_argument(i);
     os::fail(b"");
 }
 
-fn tell_unknown(i: usize) {
+pub fn tell_argument_text(i: usize, text: &[u8]) {
     begin_with_argument(i);
-    io::write_all(
-        libc::STDERR_FILENO,
-        b": unknown option (--help tells the use)\n",
-    );
+    io::write_all(libc::STDERR_FILENO, text);
 }
 
 // Tells where standard output did not take a text.
@@ -103,26 +123,89 @@ fn is_option(i: usize) -> bool {
     begins_with_dash(&space)
 }
 
-// Whether an argument ends the options.
-fn ends_options(i: usize) -> bool {
+// Whether an argument is a word.
+fn is_word(i: usize, word: &[u8]) -> bool {
     let mut space = io::buffer();
     let n = os::arg(i, &mut space);
-    check::same(&space[..n], b"--")
+    check::same(&space[..n], word)
 }
 
-// The place of the first option among the arguments, 0 where there is none.
-fn first_option(count: usize) -> usize {
+// One argument where an option may stand; --load and --save take the next one.
+fn ask_option(i: usize, before: Asked) -> Asked {
+    let mut asked = before;
+    if is_word(i, b"--") {
+        asked.options = false;
+        return asked;
+    }
+    if is_word(i, b"--load") {
+        if 0 < before.load {
+            asked.twice = i;
+        }
+        asked.load_next = true;
+        return asked;
+    }
+    if is_word(i, b"--save") {
+        if 0 < before.save {
+            asked.twice = i;
+        }
+        asked.save_next = true;
+        return asked;
+    }
+    if is_option(i) {
+        asked.obeyed = i;
+        return asked;
+    }
+    ask_tape(i, before)
+}
+
+fn ask_tape(i: usize, before: Asked) -> Asked {
+    let mut asked = before;
+    asked.several = before.several | (0 < before.tape);
+    asked.tape = i;
+    asked
+}
+
+// One argument: an option's file, an option, or a tape.
+fn ask(i: usize, before: Asked) -> Asked {
+    let mut asked = before;
+    if before.load_next {
+        asked.load = i;
+        asked.load_next = false;
+        return asked;
+    }
+    if before.save_next {
+        asked.save = i;
+        asked.save_next = false;
+        return asked;
+    }
+    if before.options {
+        return ask_option(i, before);
+    }
+    ask_tape(i, before)
+}
+
+// What the arguments ask for, up to the first option that is obeyed.
+fn ask_all(count: usize) -> Asked {
+    let mut asked = Asked {
+        load: 0,
+        save: 0,
+        tape: 0,
+        obeyed: 0,
+        twice: 0,
+        load_next: false,
+        save_next: false,
+        options: true,
+        several: false,
+    };
     let mut i: usize = 1;
     while i < count {
-        if ends_options(i) {
-            return 0;
+        if 0 < asked.obeyed {
+            return asked;
         }
-        if is_option(i) {
-            return i;
-        }
+        asked = ask(i, asked);
         i += 1;
     }
-    0
+    asked
 }
 
 fn obey_option(i: usize) {
@@ -137,26 +220,7 @@ fn obey_option(i: usize) {
         tell_unless(help::print_version());
         return;
     }
-    tell_unknown(i);
-}
-
-fn run_standard_input() -> bool {
-    run::run_tape(libc::STDIN_FILENO, b"standard input")
-}
-
-// Answers a tape by its name. The answer is whether standard output still takes answers.
-fn run_named(name: &[u8]) -> bool {
-    if check::same(name, b"-") {
-        return run_standard_input();
-    }
-    let fd = os::open_read(name);
-    if fd < 0 {
-        tell(name);
-        return true;
-    }
-    let open = run::run_tape(fd, name);
-    libc::close(fd);
-    open
+    tell_argument_text(i, b": unknown option (--help tells the use)\n");
 }
 
 // One argument: a tape, or the end of the options.
@@ -180,7 +244,7 @@ fn take_argument(i: usize, before: Named) -> Named {
             open: true,
         };
     }
-    let open = run_named(name);
+    let open = run::run_new(name);
     Named {
         options: before.options,
         tapes: true,
@@ -205,15 +269,52 @@ fn take_arguments(count: usize) -> Named {
     named
 }
 
-fn main() {
-    let count = os::arg_count();
-    let option = first_option(count);
-    if 0 < option {
-        obey_option(option);
-        return;
+// Tells what is wrong with the use of --load and --save, and answers whether anything is.
+fn is_misused(asked: Asked) -> bool {
+    if 0 < asked.twice {
+        tell_argument_text(asked.twice, b": given twice\n");
+        return true;
     }
+    if asked.load_next {
+        tell_text(b"--load", b": its file is not named\n");
+        return true;
+    }
+    if asked.save_next {
+        tell_text(b"--save", b": its file is not named\n");
+        return true;
+    }
+    if asked.several & (0 < asked.load) {
+        tell_text(b"--load", b": takes one tape at most\n");
+        return true;
+    }
+    if asked.several & (0 < asked.save) {
+        tell_text(b"--save", b": takes one tape at most\n");
+        return true;
+    }
+    false
+}
+
+// Answers every tape that is named, or standard input.
+fn run_all(count: usize) {
     let named = take_arguments(count);
     if !named.tapes {
-        run_standard_input();
+        run::run_new(b"-");
     }
+}
+
+fn main() {
+    let count = os::arg_count();
+    let asked = ask_all(count);
+    if 0 < asked.obeyed {
+        obey_option(asked.obeyed);
+        return;
+    }
+    if is_misused(asked) {
+        return;
+    }
+    if (asked.load == 0) & (asked.save == 0) {
+        run_all(count);
+        return;
+    }
+    keep::run_kept(asked.load, asked.save, asked.tape);
 }

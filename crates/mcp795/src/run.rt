@@ -7,22 +7,22 @@ ghost use mathlib.Core.Path.{_≡_};
 ghost use mathlib.Core.Bool.{false};
 ghost use lib.ListN.{length};
 ghost use Rattle.lines.specs.Print.{answerRoom};
-ghost use Rattle.tape.specs.Tape.{loan, startTape};
-ghost use Rattle.feeding.specs.Feeding.{Begins};
-ghost use Rattle.mcp795.specs.Reading.{IsFed, FeedsAll, Ends, FeedsRead};
+ghost use Rattle.tape.specs.Tape.{loan};
+ghost use Rattle.mcp795.specs.Reading.{IsFed, FeedsAll, Ends, FeedsRead, FedOn};
 
 // Bytes that are read at once; and room for the answers to all of them, were each a line of its own.
 const INPUT_ROOM: usize = 4096;
 
 const OUT_ROOM: usize = INPUT_ROOM * lines::print::ANSWER_ROOM;
 
-// A tape between two reads: how far it has come, how many bytes of answers the last read put out, whether to read on, and whether standard
-// output takes answers.
-struct Reading {
-    tape: Tape,
-    put: usize,
-    more: bool,
-    open: bool,
+// A tape between two reads: how far it has come, how many bytes of answers the last read put out, whether to read on, whether it was read and answered to
+// its end, and whether standard output takes answers.
+pub struct Reading {
+    pub tape: Tape,
+    pub put: usize,
+    pub more: bool,
+    pub whole: bool,
+    pub open: bool,
 }
 
 // Writes answers, and tells where that fails.
@@ -47,6 +47,7 @@ fn put_out(fed: Feed, out: &[u8], more: bool) -> Reading
         tape,
         put,
         more: more & open,
+        whole: !more & open,
         open,
     }
 }
@@ -108,6 +109,7 @@ fn read_once(
             tape: before,
             put: 0,
             more: false,
+            whole: false,
             open: true,
         };
     }
@@ -122,47 +124,96 @@ fn read_once(
 fn read_all(
     fd: i32,
     name: &[u8],
+    before: Tape,
     input: &mut [u8],
     line: &mut [u8],
     eeprom: &mut [u8],
     id: &mut [u8],
     out: &mut [u8],
-) -> bool
-    requires { ⌜ Begins (loan startTape (now line) (now eeprom) (now id)) ⌝ }
+) -> Reading
+    requires { ⌜ IsFed (loan before (now line) (now eeprom) (now id)) ⌝ }
     requires { ⌜ answerRoom * length (now input) ≤ length (now out) ⌝ }
+    ensures { λ r. ⌜ FedOn (loan before (now (line .entry)) (now (eeprom .entry)) (now (id .entry))) (loan (r .tape) (now (line .exit)) (now (eeprom .exit)) (now (id .exit))) ⌝ }
 {
     let mut reading = Reading {
-        tape: tape::chunk::start(),
+        tape: before,
         put: 0,
         more: true,
+        whole: false,
         open: true,
     };
     let mut turns = u64::MAX;
     while 0 < turns {
         if !reading.more {
-            return reading.open;
+            return reading;
         }
         let tape = reading.tape;
         reading = read_once(fd, name, tape, input, line, eeprom, id, out);
         turns -= 1;
     }
-    reading.open
+    reading
 }
 
-// Answers the tape of a descriptor. The answer is whether standard output still takes answers.
-pub fn run_tape(fd: i32, name: &[u8]) -> bool {
+// Answers the tape of a descriptor.
+fn run_tape(
+    fd: i32,
+    name: &[u8],
+    before: Tape,
+    line: &mut [u8],
+    eeprom: &mut [u8],
+    id: &mut [u8],
+) -> Reading
+    requires { ⌜ IsFed (loan before (now line) (now eeprom) (now id)) ⌝ }
+    ensures { λ r. ⌜ FedOn (loan before (now (line .entry)) (now (eeprom .entry)) (now (id .entry))) (loan (r .tape) (now (line .exit)) (now (eeprom .exit)) (now (id .exit))) ⌝ }
+{
     let mut input = [0u8; INPUT_ROOM];
     let mut out = [0u8; OUT_ROOM];
+    read_all(fd, name, before, &mut input, line, eeprom, id, &mut out)
+}
+
+// Answers a tape by its name, from what it begins with. The dash is standard input.
+pub fn run_named(
+    name: &[u8],
+    before: Tape,
+    line: &mut [u8],
+    eeprom: &mut [u8],
+    id: &mut [u8],
+) -> Reading
+    requires { ⌜ IsFed (loan before (now line) (now eeprom) (now id)) ⌝ }
+    ensures { λ r. ⌜ FedOn (loan before (now (line .entry)) (now (eeprom .entry)) (now (id .entry))) (loan (r .tape) (now (line .exit)) (now (eeprom .exit)) (now (id .exit))) ⌝ }
+{
+    if check::same(name, b"-") {
+        return run_tape(
+            libc::STDIN_FILENO,
+            b"standard input",
+            before,
+            line,
+            eeprom,
+            id,
+        );
+    }
+    let fd = os::open_read(name);
+    if fd < 0 {
+        crate::tell(name);
+        return Reading {
+            tape: before,
+            put: 0,
+            more: false,
+            whole: false,
+            open: true,
+        };
+    }
+    let ran = run_tape(fd, name, before, line, eeprom, id);
+    libc::close(fd);
+    ran
+}
+
+// Answers a tape by its name, which begins without a part. The answer is whether standard output still takes answers.
+pub fn run_new(name: &[u8]) -> bool {
     let mut line = [0u8; tape::chunk::HEAD_LIMIT];
     let mut eeprom = [0u8; tape::chunk::EEPROM_ROOM];
     let mut id = [0u8; tape::chunk::ID_SIZE];
-    read_all(
-        fd,
-        name,
-        &mut input,
-        &mut line,
-        &mut eeprom,
-        &mut id,
-        &mut out,
-    )
+    let before = tape::chunk::start();
+    let ran = run_named(name, before, &mut line, &mut eeprom, &mut id);
+    ran.open
 }

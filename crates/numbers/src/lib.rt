@@ -1,5 +1,8 @@
-// The number of each case of each enum, and the value that it carries: what a byte on the wire or a saved form has for it.
+// A chip as a list of numbers: the number of each case of each enum, and the value that it carries; the table of the saved form; and the whole list.
 use record::Act;
+use record::ClockAddress;
+use record::EepromAddress;
+use record::IdAddress;
 use record::Lock;
 use record::Long;
 use record::Pair;
@@ -8,7 +11,10 @@ use record::Reply;
 use record::Stage;
 use record::Target;
 ghost use mathlib.Core.Path.{_≡_};
-ghost use Rattle.record.specs.Numbers.{actNumber, lockOf, lockNumber, replyNumber, placeKind, placeValue, pairKind, pairValue, longKind, stageKind, stageCase, stageValue, targetKind, targetValue};
+ghost use Rattle.record.specs.Numbers.{actNumber, lockOf, lockNumber, replyNumber, placeOf, placeKind, placeValue, pairOf, pairKind, pairValue, longOf, longKind, stageOf, stageKind, stageCase, stageValue, targetOf, targetKind, targetValue};
+
+pub mod chip; // chip.rt: the whole list, and back
+pub mod table; // table.rt: lines, widths, and which numbers are good
 
 pub fn act_number(act: Act) -> u8
     ensures { λ r. ⌜ r ≡ actNumber act ⌝ }
@@ -175,5 +181,65 @@ pub fn target_value(target: Target) -> u8
         Target::Eeprom(a) => a.0,
         Target::Id(a) => a.0,
         Target::Status(p) => record::number::protection_number(p),
+    }
+}
+
+// The cases of the numbers.
+pub fn place_of(kind: u8, value: u8) -> Place
+    ensures { λ r. ⌜ r ≡ placeOf kind value ⌝ }
+{
+    match kind {
+        0 => Place::EepromAt(EepromAddress(value)),
+        1 => Place::ClockAt(ClockAddress(value)),
+        _ => Place::IdAt(IdAddress(value)),
+    }
+}
+
+pub fn pair_of(kind: u8, value: u8) -> Pair
+    ensures { λ r. ⌜ r ≡ pairOf kind value ⌝ }
+{
+    match kind {
+        0 => Pair::StatusData(value),
+        1 => Pair::UnlockData(value),
+        2 => Pair::ClearWatchdog,
+        _ => Pair::ClearRam,
+    }
+}
+
+pub fn long_of(kind: u8) -> Long
+    ensures { λ r. ⌜ r ≡ longOf kind ⌝ }
+{
+    match kind {
+        0 => Long::StatusOver,
+        1 => Long::UnlockOver,
+        2 => Long::WatchdogOver,
+        3 => Long::RamOver,
+        4 => Long::EnableOver,
+        _ => Long::DisableOver,
+    }
+}
+
+pub fn stage_of(kind: u8, which: u8, value: u8) -> Stage
+    ensures { λ r. ⌜ r ≡ stageOf kind which value ⌝ }
+{
+    match kind {
+        0 => Stage::Idle,
+        1 => Stage::Opened,
+        2 => Stage::Unheard,
+        3 => Stage::Instruction(record::codes::code_of(which)),
+        4 => Stage::Reading(place_of(which, value)),
+        5 => Stage::Writing(place_of(which, value)),
+        6 => Stage::Second(pair_of(which, value)),
+        _ => Stage::Over(long_of(which)),
+    }
+}
+
+pub fn target_of(kind: u8, value: u8) -> Target
+    ensures { λ r. ⌜ r ≡ targetOf kind value ⌝ }
+{
+    match kind {
+        0 => Target::Eeprom(EepromAddress(value)),
+        1 => Target::Id(IdAddress(value)),
+        _ => Target::Status(record::number::protection_of(value)),
     }
 }

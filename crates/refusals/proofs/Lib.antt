@@ -1,3 +1,4 @@
 pub mod RangeLaws
 pub mod TableLaws
 pub mod KeepLaws
+pub mod TypeLaws

@@ -1,17 +1,17 @@
 -- When a chip with its memories and a ledger agree. The frame agrees by whether it is heard, by its code, by how many bytes came and by
--- what they brought. The record has no field for the ledger's sake, and neither is computed from the other.
+-- what they brought. The record has no field for the ledger's sake, and once a run has begun neither is computed from the other.
 -- Assumes nothing.
 use Prim.Native.Nat.{ℕ, _/_, _%_, _<_}
 use mathlib.Core.Path.{_≡_}
 use mathlib.Core.Bool.{Bool, true, false, _||_}
 use mathlib.Core.List.{List, []}
 use lib.ListN.{getD}
-use Rattle.base.specs.Words.{pick, bit}
+use Rattle.base.specs.Words.{bit}
 use Rattle.record.specs.declared.Device.{Device}
 use Rattle.record.specs.declared.Load.{Load}
 use Rattle.record.specs.declared.Cycle.{Cycle}
 use Rattle.record.specs.declared.Code.{Code}
-use Rattle.record.specs.declared.Code.the-variants.{Eewrdi, Eewren, Srread, Other}
+use Rattle.record.specs.declared.Code.the-variants.{Srread, Other}
 use Rattle.record.specs.declared.Place.{Place}
 use Rattle.record.specs.declared.Place.the-variants.{EepromAt, ClockAt, IdAt}
 use Rattle.record.specs.declared.Pair.{Pair}
@@ -29,10 +29,10 @@ use Rattle.record.specs.Stages as stages
 use Rattle.record.specs.Stages.{selected, overCode, codeAt}
 use Rattle.record.specs.World.{World}
 use Rattle.acts.proofs.ValidLaws.{Valid}
-use Rattle.ledger.specs.State.{Memory, Loaded, Ledger, closed, firstStep, opened, Kind, eepromCycle, idCycle, statusCycle}
+use Rattle.ledger.specs.State.{Loaded, Ledger, closed, firstStep, opened, Kind, eepromCycle, idCycle, statusCycle}
 use Rattle.ledger.specs.State as ledger
-use Rattle.ledger.specs.Bytes.{isLoaded, loadedByte, byteOf}
-use Rattle.run.specs.Claim.{memoryOf, memorySize}
+use Rattle.ledger.specs.Bytes.{isLoaded, loadedByte}
+use Rattle.run.specs.Begin.{taken, AccountedFrom}
 
 -- the same steps of UNLOCK were taken
 abbrev pub LockAgrees : Lock → ledger.Lock → Type 0
@@ -48,10 +48,6 @@ pub record LoadAgrees (load : Load) (xs : List Loaded) : Type 0 where
 -- the codes that stay at their instruction byte, whatever comes after it
 abbrev pub stays : Code → Bool
 stays c = isCode c Srread || isCode c Other
-
--- how many bytes a code takes that stands at a byte too many
-abbrev pub taken : Code → ℕ
-taken c = pick (isCode c Eewren || isCode c Eewrdi) 1 2
 
 -- how many bytes came
 abbrev pub CountAgrees : Stage → ℕ → Type 0
@@ -143,4 +139,4 @@ pub record StateAgrees (d : Device) (l : Ledger) : Type 0 where
 pub record Agree (s : World) (part : ℕ) (w : World) (l : Ledger) : Type 0 where
   pub valid : Valid part w
   pub state : StateAgrees (w .device) l
-  pub bytes : (m : Memory) (p : ℕ) → p < memorySize m part → getD (memoryOf m w) p 0 ≡ byteOf (getD (memoryOf m s) p 0) m p (l .entries)
+  pub bytes : AccountedFrom part s w l

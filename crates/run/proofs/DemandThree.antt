@@ -24,7 +24,7 @@ run-agrees s part p [] w l a = a
 run-agrees s part p (x ∷ xs) w l a = run-agrees s part p xs _ _ (step-agrees s part w l (x .act) (x .arg) p a)
 
 -- from fresh, a byte with no entry is FFh
-fresh-byte : (m : Memory) (part p : ℕ) → p < memorySize m part → getD (memoryOf m (freshWorld part)) p 0 ≡ 255
+pub fresh-byte : (m : Memory) (part p : ℕ) → p < memorySize m part → getD (memoryOf m (freshWorld part)) p 0 ≡ 255
 fresh-byte eeprom part p h = getD-replicate (sizeOf part) p 255 0 h
 fresh-byte id part p h = getD-replicate idSize p 255 0 h
 

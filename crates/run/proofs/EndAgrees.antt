@@ -43,7 +43,8 @@ use Rattle.ends.proofs.EndLaws.{write-stage}
 use Rattle.ledger.specs.State as ledger
 use Rattle.ledger.specs.State.{Ledger, closed, firstStep, opened, eepromCycle, idCycle}
 use Rattle.ledger.specs.Frames as rules
-use Rattle.run.proofs.Agree.{LockAgrees, stays, taken, CountAgrees, Empty, PageAgrees, PairAgrees, DataAgrees, FrameAgrees, WritesPage, WritesBits, TargetAgrees, CycleAgrees, StateAgrees}
+use Rattle.run.specs.Begin.{taken}
+use Rattle.run.proofs.Agree.{LockAgrees, stays, CountAgrees, Empty, PageAgrees, PairAgrees, DataAgrees, FrameAgrees, WritesPage, WritesBits, TargetAgrees, CycleAgrees, StateAgrees}
 use Rattle.run.proofs.Codes.{code-at, addressed-at, write-at, moves, write-moves}
 use Rattle.run.proofs.PartLaws.{size-agrees}
 

@@ -60,7 +60,7 @@ module _ (part n : ℕ) (w : World) (r : InRange part (w .device)) where
       let most : w .device .cycle .left ≤ q .used = leb-true _ _ (both-right (wip (w .device)) (leb (w .device .cycle .left) (q .used)) t) in
       (runs, omega (arith, spent .within runs))
 
-  wait-told : welOf w ≡ true → welOf (q .after) ≡ false → All
+  pub wait-told : welOf w ≡ true → welOf (q .after) ≡ false → All
   wait-told on e =
       by-cases (ended (w .device) (q .after .device)) all-used
       (λ f. absurd (true≢false (sym on ∙ sym (rw f at (spent .wel)) ∙ e)))

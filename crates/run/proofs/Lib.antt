@@ -12,10 +12,12 @@ pub mod FreshAgrees
 pub mod StepAgrees
 pub mod DemandThree
 pub mod RunLaws
+pub mod BeginAgrees
 pub mod TurnLaws
 pub mod ChangeLaws
 pub mod StampLaws
 pub mod FramedLaws
 pub mod LatchLaws
 pub mod LeftoverLaws
+pub mod ForgetfulLaws
 pub mod WrongLaws

@@ -19,19 +19,22 @@ use Rattle.record.specs.declared.Device.{Device}
 use Rattle.record.specs.Part.{isPart, sizeOf, idSize}
 use Rattle.record.specs.Fresh.{fresh}
 use Rattle.refusals.specs.Refusal.{wrongLength, setupRefusal}
-use Rattle.refusals.proofs.RangeLaws.{fresh-in-range}
-use Rattle.refusals.proofs.TableLaws.{setup-passes}
+use Rattle.refusals.proofs.RangeLaws.{in-range, fresh-in-range}
+use Rattle.refusals.proofs.TableLaws.{setup-passed, setup-passes}
 use Rattle.record.specs.Numbers.{actOf}
-use Rattle.record.specs.World.{World, world, freshWorld}
+use Rattle.record.specs.World.{World, world, Bytes, Sized, freshWorld}
 use Rattle.acts.specs.declared.Answer.{Answer}
 use Rattle.acts.specs.Act.{Outcome, performed, outcomeOf}
 use Rattle.acts.proofs.SuitedLaws.{performed-suited}
+use Rattle.acts.proofs.ValidLaws.{Valid}
 use Rattle.ledger.specs.State.{Step, start}
 use Rattle.ledger.specs.Steps.{ledgerRun}
 use Rattle.run.specs.declared.Ran.{Ran}
 use Rattle.run.specs.Claim.{Input, Accounted, usedBy, ourChip, worldAfter, stepsOf, stepOf, DemandThree}
-use Rattle.run.specs.Run.{refusesRun, inputsOf, inputsIn, numbersOf, ticksOf, stepsBy, Performed, Run}
+use Rattle.run.specs.Begin.{ledgerOf, AccountedFrom, DemandThreeFrom}
+use Rattle.run.specs.Run.{refusesRun, inputsOf, inputsIn, numbersOf, ticksOf, stepsBy, Performed, Run, RunFrom}
 use Rattle.run.proofs.DemandThree.{demand-three}
+use Rattle.run.proofs.BeginAgrees.{demand-three-from}
 
 -- the acts from place i on
 abbrev pub inputsFrom : ℕ → List ℕ → List ℕ → ℕ → List Input
@@ -160,13 +163,25 @@ steps-by part (x ∷ xs) w more =
     ap (λ (ss : List Step). stepOf x (ourChip part (x .act) (x .arg) w .used) ∷ ss)
     (steps-by part xs (ourChip part (x .act) (x .arg) w .after) more)
 
+told-by :
+    (part : ℕ) (xs : List Input) (answers answers′ used used′ : List ℕ) (s w : World) (n : ℕ) → Performed part xs answers answers′ used used′ s w n
+    → stepsOf ourChip part xs s ≡ stepsBy xs used′
+told-by part xs answers answers′ used used′ s w n d =
+    steps-by part xs s (drop (length (ticksOf part xs s)) used) ∙ ap (stepsBy xs) (sym (d .ticks))
+
 accounted :
     (part : ℕ) (xs : List Input) (answers answers′ used used′ : List ℕ) (w : World) (n : ℕ) → isPart part ≡ true
     → Performed part xs answers answers′ used used′ (freshWorld part) w n → Accounted part w (ledgerRun part (stepsBy xs used′) start)
 unfolding DemandThree
 accounted part xs answers answers′ used used′ w n p d =
-    let f = freshWorld part in
-    rw (d .after, d .ticks, ← steps-by part xs f (drop (length (ticksOf part xs f)) used)) (demand-three part p xs)
+    rw (d .after, ← told-by part xs answers answers′ used used′ (freshWorld part) w n d) (demand-three part p xs)
+
+accounted-from :
+    (part : ℕ) (xs : List Input) (answers answers′ used used′ : List ℕ) (s w : World) (n : ℕ) → isPart part ≡ true → Valid part s
+    → Performed part xs answers answers′ used used′ s w n → AccountedFrom part s w (ledgerRun part (stepsBy xs used′) (ledgerOf (s .device)))
+unfolding DemandThreeFrom
+accounted-from part xs answers answers′ used used′ s w n p v d =
+    rw (d .after, ← told-by part xs answers answers′ used used′ s w n d) (demand-three-from part p s (v .range) (v .shaped) xs)
 
 -- what a run that is not refused may suppose
 pub record Accepted (part m n : ℕ) : Type 0 where
@@ -227,4 +242,34 @@ run-done part codes ns answers answers′ used used′ ee ee₁ ee′ id id₁ i
       refused = λ h. absurd (h z);
       done = λ y. (m, g);
       demandThree = λ y. accounted part xs answers answers′ used used′ w (r .count) (a .known) g;
+    }
+
+-- a run from a beginning that is refused
+pub from-refused :
+    (part : ℕ) (d : Device) (codes ns answers used ee id : List ℕ) (r : Ran) → (r .number ≡ 0 → ⊥) → r .number ≡ setupRefusal part d (length ee) (length id)
+    → r .count ≡ 0 → r .device ≡ d → RunFrom part d codes ns answers answers used used ee ee id id r
+from-refused part d codes ns answers used ee id r h e n q =
+    record {
+      refused = λ z. (e, n, q, refl, refl, refl, refl);
+      done = λ z. absurd (h (e ∙ z));
+      demandThree = λ z. absurd (h (e ∙ z));
+    }
+
+-- and one whose acts were performed from there; lengths of arrays and bytes are those that the types give
+pub from-done :
+    (part : ℕ) (d : Device) (codes ns answers answers′ used used′ ee ee′ id id′ : List ℕ) (r : Ran) → setupRefusal part d (length ee) (length id) ≡ 0
+    → Sized d → Bytes ee → Bytes id → r .number ≡ 0
+    → Performed part (inputsIn codes ns answers used) answers answers′ used used′ (world d ee id) (world (r .device) ee′ id′) (r .count)
+    → RunFrom part d codes ns answers answers′ used used′ ee ee′ id id′ r
+from-done part d codes ns answers answers′ used used′ ee ee′ id id′ r z sized b c m k =
+    let a = setup-passed part d (length ee) (length id) z in
+    let v : Valid part (world d ee id) =
+    record {
+      range = in-range part d (a .ranged);
+      shaped = record { sized = sized; eeprom = a .eeprom; id = a .ids; eepromBytes = b; idBytes = c };
+    } in
+    record {
+      refused = λ h. absurd (h z);
+      done = λ y. (m, k);
+      demandThree = λ y. accounted-from part (inputsIn codes ns answers used) answers answers′ used used′ (world d ee id) (world (r .device) ee′ id′) (r .count) (a .known) v k;
     }

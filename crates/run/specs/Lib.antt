@@ -1,7 +1,9 @@
 pub mod Claim
+pub mod Begin
 pub mod Run
 pub mod Script
 pub mod Wrong
+pub mod Forgetful
 pub mod Changes
 pub mod Stamps
 pub mod Pieces

@@ -1,5 +1,5 @@
--- A list of acts as slices: act codes, their arguments, and lent slices for the numbers answered and the ticks used. What the function
--- `run` gives, refused or not.
+-- A list of acts as slices: act codes, their arguments, and lent slices for the numbers answered and the ticks used. What the functions
+-- `run` and `run_from` give, refused or not.
 -- Assumes nothing.
 use Prim.Native.Nat.{ℕ, zero, suc, min}
 use mathlib.Core.Path.{_≡_}
@@ -8,16 +8,18 @@ use mathlib.Core.List.{List, [], _∷_}
 use lib.Dec.{ltb}
 use lib.ListN.{length}
 use Rattle.base.specs.Words.{pick, over}
+use Rattle.record.specs.declared.Device.{Device}
 use Rattle.record.specs.Fresh.{fresh}
 use Rattle.record.specs.Numbers.{actOf}
 use Rattle.record.specs.Part.{isPart}
 use Rattle.record.specs.World.{World, world, freshWorld}
-use Rattle.refusals.specs.Refusal.{wrongLength, firstRefusal}
+use Rattle.refusals.specs.Refusal.{wrongLength, firstRefusal, setupRefusal}
 use Rattle.acts.specs.Act.{performed}
 use Rattle.ledger.specs.State.{Step, start}
 use Rattle.ledger.specs.Steps.{ledgerRun}
 use Rattle.run.specs.declared.Ran.{Ran}
 use Rattle.run.specs.Claim.{Input, Accounted, ourChip, worldAfter, stepOf}
+use Rattle.run.specs.Begin.{ledgerOf, AccountedFrom}
 
 -- a run is refused by the first two rows of the table: 3 for a part that is none, 4 for a memory's length that is not the part's
 abbrev pub refusesRun : ℕ → ℕ → ℕ → ℕ
@@ -77,3 +79,22 @@ pub record Run (part : ℕ) (codes args answers answers′ used used′ ee ee′
       refusesRun part (length ee) (length id) ≡ 0
       → Accounted part (world (r .device) ee′ id′)
       (ledgerRun part (stepsBy (inputsIn codes args answers used) used′) start)
+
+-- R18. what a run leaves that begins with a record d and the bytes in the memories: in the slices before and after, and its answer
+pub record RunFrom (part : ℕ) (d : Device) (codes args answers answers′ used used′ ee ee′ id id′ : List ℕ) (r : Ran) : Type 0 where
+  -- refused, by the rows of the table that judge part, memories and record: nothing changed, and the record is answered as it was given
+  pub refused :
+      (setupRefusal part d (length ee) (length id) ≡ 0 → ⊥)
+      → (r .number ≡ setupRefusal part d (length ee) (length id)) × (r .count ≡ 0) × (r .device ≡ d)
+      × (answers′ ≡ answers) × (used′ ≡ used) × (ee′ ≡ ee) × (id′ ≡ id)
+  -- done: the acts are performed, from there
+  pub done :
+      setupRefusal part d (length ee) (length id) ≡ 0
+      → (r .number ≡ 0)
+      × Performed part (inputsIn codes args answers used) answers answers′ used used′
+      (world d ee id) (world (r .device) ee′ id′) (r .count)
+  -- R16. demand 3 from this beginning, of the memories at exit, by the record at entry and the acts and the ticks at exit alone
+  pub demandThree :
+      setupRefusal part d (length ee) (length id) ≡ 0
+      → AccountedFrom part (world d ee id) (world (r .device) ee′ id′)
+      (ledgerRun part (stepsBy (inputsIn codes args answers used) used′) (ledgerOf d))

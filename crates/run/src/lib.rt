@@ -1,4 +1,4 @@
-// A list of acts on a fresh chip, performed one after the other.
+// A list of acts on a fresh chip, or on one that is at work, performed one after the other.
 use record::Act;
 use record::Device;
 ghost use mathlib.Core.Path.{_≡_};
@@ -8,7 +8,7 @@ ghost use Rattle.record.specs.World.{world};
 ghost use Rattle.refusals.specs.Refusal.{setupRefusal};
 ghost use Rattle.run.specs.declared.Ran.{Ran};
 ghost use Rattle.run.specs.Claim.{usedBy};
-ghost use Rattle.run.specs.Run.{refusesRun, inputsIn, Performed, Run};
+ghost use Rattle.run.specs.Run.{refusesRun, inputsIn, Performed, Run, RunFrom};
 
 // What a run answers: a number of the refusal table, 0 for done; how many acts were performed; the record after them.
 pub struct Ran {
@@ -117,6 +117,31 @@ pub fn run(
     acts::page::erase(eeprom);
     acts::page::erase(id);
     perform_all(part, fresh, codes, args, answers, used, eeprom, id)
+}
+
+// The acts on a chip at work: they begin with this record and these memories. What the table refuses whatever the act is, a part that is none, a memory of
+// the wrong length, a record out of range, is refused here, and nothing changes.
+pub fn run_from(
+    part: u64,
+    device: Device,
+    codes: &[u8],
+    args: &[u64],
+    answers: &mut [u8],
+    used: &mut [u64],
+    eeprom: &mut [u8],
+    id: &mut [u8],
+) -> Ran
+    ensures { λ r. ⌜ RunFrom part device (now (codes .entry)) (now (args .entry)) (now (answers .entry)) (now (answers .exit)) (now (used .entry)) (now (used .exit)) (now (eeprom .entry)) (now (eeprom .exit)) (now (id .entry)) (now (id .exit)) r ⌝ }
+{
+    let number = refusals::setup_refusal(part, device, eeprom.len(), id.len());
+    if number != 0 {
+        return Ran {
+            number,
+            count: 0,
+            device,
+        };
+    }
+    perform_all(part, device, codes, args, answers, used, eeprom, id)
 }
 
 // `run` for a caller in another language, to whom each slice is a pointer and a length: how many acts were performed.

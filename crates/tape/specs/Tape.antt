@@ -3,14 +3,15 @@
 -- Assumes nothing.
 use Prim.Native.Nat.{ℕ, suc, _-_, _≤_}
 use mathlib.Core.Path.{_≡_}
-use mathlib.Core.Bool.{Bool, _&&_}
+use mathlib.Core.Bool.{Bool, not, _&&_}
 use mathlib.Core.List.{List, [], _∷_, _++_}
 use lib.Dec.{leb, ltb, eqb}
 use lib.ListN.{length, take}
 use Rattle.base.specs.Words.{pick, over}
+use Rattle.record.specs.declared.Device.{Device}
 use Rattle.record.specs.Part.{idSize}
 use Rattle.record.specs.Fresh.{fresh}
-use Rattle.record.specs.World.{World, world}
+use Rattle.record.specs.World.{World, world, Bytes, Sized}
 use Rattle.text.specs.Bytes.{newline}
 use Rattle.text.specs.Buffer.{Buffer, buffer, append, roomIn}
 use Rattle.lines.specs.Line.{lineLimit}
@@ -159,6 +160,20 @@ isTape l = tapeWith (l .tape) (length (l .line)) (length (l .eeprom)) (length (l
 -- the code's tape before its first byte
 abbrev pub startTape : Tape
 startTape = record { part = 0; device = fresh; begun = 0 }
+
+-- With a part, a record and memories lent by these lengths a tape may begin: one of the four parts with a record in range, and the sizes that a tape is lent.
+unfoldable pub resumes : ℕ → Device → ℕ → ℕ → Bool
+resumes part d ee id = not (eqb part 0) && ready part d && (eqb ee eepromRoom && eqb id idSize)
+
+-- `resume`: the code's tape that begins with a chip, before its first byte. What is no chip leaves the tape without a part.
+abbrev pub resumedTape : ℕ → Device → ℕ → ℕ → Tape
+resumedTape part d ee id = pick (resumes part d ee id) (record { part = part; device = d; begun = 0 }) startTape
+
+-- What the types of code tell of a record and two memories: arrays of their lengths, and bytes. A theorem about definitions asks for it.
+pub record Typed (d : Device) (ee ids : List ℕ) : Type 0 where
+  pub sized : Sized d
+  pub eeprom : Bytes ee
+  pub id : Bytes ids
 
 -- what a call gives: all that is lent after it, the output, and how many bytes of the chunk were taken
 pub record Given : Type 0 where

@@ -4,6 +4,7 @@ use crate::Feed;
 use crate::Tape;
 use answers::Progress;
 use lines::print;
+use record::Device;
 use text::Kind;
 use text::buffer;
 use text::bytes;
@@ -13,10 +14,11 @@ ghost use mathlib.Core.List.{_++_};
 ghost use Prim.Native.Nat.{_+_, _≤_};
 ghost use lib.ListN.{length, take};
 ghost use Rattle.base.specs.Words.{over};
+ghost use Rattle.record.specs.World.{Bytes, Sized};
 ghost use Rattle.text.specs.Buffer.{buffer};
 ghost use Rattle.lines.specs.Print.{answerRoom};
 ghost use Rattle.answers.specs.Answer.{lineAnswer, Lent, ready, setupIn, heldBy, shownIn, shownBy};
-ghost use Rattle.tape.specs.Tape.{head, Headed, finished, putInto, takenFrom, loan, stateIn, tapeWith, isTape, gives, feedInto, finishInto, givenBy, startTape};
+ghost use Rattle.tape.specs.Tape.{head, Headed, finished, putInto, takenFrom, loan, stateIn, tapeWith, isTape, gives, feedInto, finishInto, givenBy, startTape, resumedTape, Typed};
 
 // T3. The head of a line: one character more than it may have tells that it is too long.
 pub const HEAD_LIMIT: usize = lines::line::LINE_LIMIT + 1;
@@ -35,6 +37,46 @@ pub fn start() -> Tape
         device: record::fresh_device(),
         begun: 0,
     }
+}
+
+// How many bytes a slice has. That each number in it is one its type says: a call makes a promise of it.
+fn bytes_in(s: &[u8]) -> usize
+    ensures { λ r. ⌜ (r ≡ length (now (s .entry))) × Bytes (now (s .entry)) ⌝ }
+{
+    bytes::rest(s, 0).len()
+}
+
+// The record as it is, and what its type says of it: arrays of their lengths, with bytes in them.
+fn sized(d: Device) -> Device
+    ensures { λ r. ⌜ (r ≡ d) × Sized d ⌝ }
+{
+    let regs = d.regs;
+    let sram = d.sram;
+    let load = d.load;
+    let loaded = load.bytes;
+    bytes_in(&regs);
+    bytes_in(&sram);
+    bytes_in(&loaded);
+    d
+}
+
+// A tape that begins with a chip that is there: its part and record, and the memories that are lent to each call. A part that is none, a record out
+// of range and memories of other sizes than a tape is lent are no chip: the tape then begins without a part.
+pub fn resume(part: u64, device: Device, eeprom: &[u8], id: &[u8]) -> Tape
+    ensures { λ r. ⌜ r ≡ resumedTape part device (length (now (eeprom .entry))) (length (now (id .entry))) ⌝ }
+    ensures { λ r. ⌜ Typed device (now (eeprom .entry)) (now (id .entry)) ⌝ }
+{
+    let chip = sized(device);
+    let ready = answers::is_ready(part, chip);
+    let fit = (bytes_in(eeprom) == EEPROM_ROOM) & (bytes_in(id) == ID_SIZE);
+    if (part != 0) & ready & fit {
+        return Tape {
+            part,
+            device: chip,
+            begun: 0,
+        };
+    }
+    start()
 }
 
 // Adds a piece to the head of a line, as far as the head goes, and answers how long the head is.

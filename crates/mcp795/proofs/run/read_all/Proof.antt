@@ -1,19 +1,14 @@
--- `mcp795::run::read_all`: as long as there is more to read, some bytes of a tape have been fed; the turns that are left run down.
+-- `mcp795::run::read_all`: what was read has been fed behind what was fed before; the turns that are left run down.
 -- Assumes nothing.
 use native.Mathlib.Omega.{arith}
-use mathlib.Core.Path.{_≡_, refl, sym, subst, _∙_}
-use mathlib.Core.Bool.{true}
-use mathlib.Core.List.{List, []}
+use mathlib.Core.Path.{_≡_, refl, _∙_}
+use mathlib.Core.List.{List}
 use Prim.Native.Nat.{ℕ}
 use lib.ListN.{length}
 use borrow.Author.Needs.{needs}
-use borrow.Author.Tests.{not-false}
-use Rattle.tape.specs.declared.Tape.{Tape}
-use Rattle.tape.specs.Tape.{loan, startTape}
-use Rattle.feeding.specs.Feeding.{HasFed}
-use Rattle.feeding.proofs.FeedLaws.{has-start}
-use Rattle.mcp795.specs.Reading.{IsFed}
-use Rattle.mcp795.proofs.ReadingLaws.{read-on}
+use Rattle.tape.specs.Tape.{loan}
+use Rattle.mcp795.specs.Reading.{FedOn}
+use Rattle.mcp795.proofs.ReadingLaws.{read-on, on-none, on-more, on-fed}
 use Rattle.mcp795.proofs.run.read_all.Statement.{statement}
 use Rattle.mcp795.proofs.run.read_all.Tie as tie
 
@@ -27,24 +22,20 @@ record Bounds (n₀ l₀ e₀ i₀ o₀ n l e i o : List ℕ) : Type 0 where
 
 abbrev Inv-loop : tie.InvT-loop
 Inv-loop fd name input₀ line₀ eeprom₀ id₀ out₀ reading₀ turns₀ input line eeprom id out reading turns =
-    Bounds input₀ line₀ eeprom₀ id₀ out₀ input line eeprom id out × (reading .more ≡ true → IsFed (loan (reading .tape) line eeprom id))
+    Bounds input₀ line₀ eeprom₀ id₀ out₀ input line eeprom id out
+    × FedOn (loan (reading₀ .tape) line₀ eeprom₀ id₀) (loan (reading .tape) line eeprom id)
 
 abbrev μ-loop : tie.MeasureT-loop
 μ-loop fd name input₀ line₀ eeprom₀ id₀ out₀ reading₀ turns₀ input line eeprom id out reading turns = turns
 
 loop-holds : tie.Need-loop-holds Inv-loop μ-loop
-loop-holds c =
-    let b = c .before .before .before .before .before .before .before in
-    let a = b .args in
-    let f = has-start (loan startTape (a .line .now) (a .eeprom .now) (a .id .now)) (b .pre .0) in (
-      record { input = refl; line = refl; eeprom = refl; id = refl; out = refl },
-      λ t. ([], subst (λ (x : Tape). HasFed (loan x (a .line .now) (a .eeprom .now) (a .id .now)) []) (sym (c .start .ensures)) f),
-    )
+loop-holds c = (record { input = refl; line = refl; eeprom = refl; id = refl; out = refl }, on-none _)
 
 read-once-requires : tie.Need-read-once-requires Inv-loop μ-loop
 read-once-requires c κs =
     let l = c .before .before .before .before .before .before .before .before .before .loop in
-    (l .inv .1 (not-false (l .reading .more) (c .before .before .before .before .before .before .if1 .left)), omega (arith, c .before .before .before .before .before .before .before .before .before .before .before .before .before .before .before .before .before .pre .1, l .inv .0 .out, l .inv .0 .input))
+    let s = c .before .before .before .before .before .before .before .before .before .before .before .before .before .before .before .before in
+    (on-fed _ _ (s .pre .0) (l .inv .1), omega (arith, s .pre .1, l .inv .0 .out, l .inv .0 .input))
 
 loop-again : tie.Need-loop-again Inv-loop μ-loop
 loop-again c =
@@ -60,13 +51,14 @@ loop-again c =
         id = f .kept .1 .1 .1 .1 .1 .1 .0 ∙ i .id;
         out = f .kept .1 .1 .1 .1 .1 .1 .1 .0 ∙ i .out;
       },
-      read-on ll next (l .out) (f .last .1 .1 .1 .1 .1 .1 .1 .0) (f .last .1 .1 .1 .0) (f .result .put) (f .result .more) (l .inv .1 (not-false (l .reading .more) (c .before .before .before .before .before .before .before .before .before .before .before .before .before .before .before .before .before .if1 .left))) (f .ensures),
+      on-more _ ll next (l .inv .1)
+          (read-on ll next (l .out) (f .last .1 .1 .1 .1 .1 .1 .1 .0) (f .last .1 .1 .1 .0) (f .result .put) (f .result .more) (f .ensures)),
     )
 
 pub read-all-spec : {M : Type 1} → statement M
 read-all-spec =
     tie.close
     (tie.spec
-    Inv-loop μ-loop (λ c κs. search needs) loop-holds (λ c. search needs) (λ c. search needs) (λ c. search needs) (λ c. search needs)
+    Inv-loop μ-loop loop-holds (λ c. search needs) (λ c. search needs) (λ c. search needs) (λ c. search needs)
     (λ c. search needs) (λ c. search needs) read-once-requires (λ c. search needs) (λ c. search needs) loop-again (λ c. search needs)
     (λ c. search needs) (λ c. search needs) (λ c. search needs) (λ c. search needs) (λ c. search needs))

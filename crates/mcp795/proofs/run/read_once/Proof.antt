@@ -13,7 +13,7 @@ returns c = none-read _ _ _
 returns-2 : tie.Need-returns-2
 returns-2 c =
     let e = c .before .before .before .before .before .before .before .before .finish .ensures in
-    λ bytes h. inr (e .0, e .1)
+    λ s bytes h. inr (e .0, e .1)
 
 answer-requires : tie.Need-answer-requires
 answer-requires c κs =
@@ -23,7 +23,7 @@ answer-requires c κs =
 returns-3 : tie.Need-returns-3
 returns-3 c =
     let a = c .before .before .before .before .before .before .before .before .answer in
-    λ bytes h. inl (c .before .before .before .before .before .before .before .before .before .before .before .before .before .before .count .result, a .ensures bytes h)
+    λ s bytes h. inl (c .before .before .before .before .before .before .before .before .before .before .before .before .before .before .count .result, a .ensures s bytes h)
 
 pub read-once-spec : {M : Type 1} → statement M
 read-once-spec =

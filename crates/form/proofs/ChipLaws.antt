@@ -1,0 +1,446 @@
+-- A chip and its numbers: those of a chip in range are good by the table and stand for it; good numbers are those of a chip in range.
+-- Assumes nothing.
+use mathlib.Core.Path.{_≡_, refl, sym, ap, subst, _∙_}
+use mathlib.Core.Bool.{Bool, true, false, not, _&&_, _||_}
+use mathlib.Core.List.{List, [], _∷_, _++_, append-nil}
+use Prim.Native.Nat.{ℕ, zero, suc, _+_, _-_, _<_, _≤_}
+use native.Mathlib.Nat.{le-of-eq}
+use native.Mathlib.Omega.{arith}
+use borrow.Author.Tests.{ltb-true, ltb-false, leb-true, ne-eqb}
+use lib.Dec.{ltb, leb, eqb}
+use lib.Bits.{bitAnd, and-le-r}
+use lib.ListN.{length, take, drop, getD, length-append, length-drop, List·getD-append, List·getD-eq-default, take-append-drop}
+use lib.Seq.{getD-take, getD-drop, drop-drop, drop-at, take-at, take-all, drop-cons, length-take-le}
+use Rattle.base.specs.Words.{pick, flag, bit, every}
+use Rattle.base.proofs.Tests.{by-cases, no, neither, neither-left, neither-right, true-false, flag-below}
+use Rattle.base.proofs.Every.{same-below, bound-below}
+use Rattle.record.specs.declared.Cycle.{Cycle}
+use Rattle.record.specs.declared.Device.{Device}
+use Rattle.record.specs.declared.Lock.{Lock}
+use Rattle.record.specs.declared.Lock.the-variants.{Closed, First, Open}
+use Rattle.record.specs.declared.Stage.{Stage}
+use Rattle.record.specs.Numbers.{protectionOf, lockNumber, lockOf, stageKind, stageOf, targetOf}
+use Rattle.record.specs.Part.{isPart, sizeOf, idSize, bootsOf}
+use Rattle.record.specs.Registers.{st, secondsAt, kept, periodOf, cycleTicks, startupTicks}
+use Rattle.record.specs.Stages.{selected, foreignToWip}
+use Rattle.record.specs.World.{World, world, Bytes}
+use Rattle.record.proofs.NumberLaws.{protection-back, protection-below, lock-back, stage-back, target-back}
+use Rattle.record.proofs.PartLaws.{size-most}
+use Rattle.refusals.specs.InRange.{ClockRange, PowerRange}
+use Rattle.form.specs.Table.{partIn, registerIn, powerIn, stageIn, startupBy, startupLimit, watchdogBy, markBy, kindBy, caseGood, valueLimit, targetLimit, leftBy, leftLimit}
+use Rattle.form.specs.Chip.{headNumbers, tailNumbers, numbersOf, deviceOf, worldOf, IsChip, Sound}
+use Rattle.form.specs.Facts.{Facts, BytesFrom}
+use Rattle.form.proofs.FactLaws.{facts-good, good-facts}
+use Rattle.form.proofs.StageLaws.{kind-below, idle-kind, kind-idle, case-good, value-below, StageFrom, stage-from, target-kind-below, target-below, TargetFrom, protection-of, target-from}
+
+-- numbers that stand for a test, and for the lock
+pub flag-back : (b : Bool) → eqb (flag b) 1 ≡ b
+flag-back true = refl
+flag-back false = refl
+
+pub flag-of : (n : ℕ) → n < 2 → flag (eqb n 1) ≡ n
+unfolding every
+flag-of n h = same-below (λ (k : ℕ). flag (eqb k 1)) (λ (k : ℕ). k) 2 refl n h
+
+lock-below : (x : Lock) → lockNumber x < 3
+lock-below Closed = omega arith
+lock-below First = omega arith
+lock-below Open = omega arith
+
+pub lock-of : (n : ℕ) → n < 3 → lockNumber (lockOf n) ≡ n
+unfolding every
+lock-of n h = same-below (λ (k : ℕ). lockNumber (lockOf k)) (λ (k : ℕ). k) 3 refl n h
+
+-- a register's byte
+kept-byte : (k : ℕ) → k < 32 → getD kept k 0 < 256
+unfolding every
+kept-byte k h = bound-below (λ (j : ℕ). getD kept j 0) 256 32 refl k h
+
+register-byte : (k v : ℕ) → k < 32 → bitAnd v (getD kept k 0) ≡ v → v < 256
+register-byte k v h e = omega (arith, e, and-le-r v (getD kept k 0), kept-byte k h)
+
+size-some : (part : ℕ) → 0 < sizeOf part
+size-some part = omega arith
+
+-- A limit that depends on a test: what it says of a number, both ways.
+open-limit : (t : Bool) (n m : ℕ) → n < suc m → (t ≡ false → n ≡ 0) → n < pick t (suc m) 1
+open-limit true n m h z = h
+open-limit false n m h z = omega (arith, z refl)
+
+limit-open : (t : Bool) (n m : ℕ) → n < pick t (suc m) 1 → (n ≤ m) × (t ≡ false → n ≡ 0)
+limit-open true n m h = (omega (arith, h), λ e. absurd (true-false refl e))
+limit-open false n m h = (omega (arith, h), λ e. omega (arith, h))
+
+-- a number below a limit, both told in another way
+low : {a b m k : ℕ} → a ≡ b → m ≡ k → b < k → a < m
+low e f h = omega (arith, e, f, h)
+
+above-none : {n m : ℕ} → n ≤ m → n < suc m
+above-none h = omega (arith, h)
+
+-- the mark and the kind by power, the ticks left by power and frame
+mark-below : (power mark : Bool) → (power ≡ true → mark ≡ false) → flag mark < markBy power
+mark-below true mark h = rw (h refl) (omega arith)
+mark-below false mark h = flag-below mark
+
+kind-within : (power : Bool) (s : Stage) → (power ≡ false → selected s ≡ false) → stageKind s < kindBy power
+kind-within true s h = kind-below s
+kind-within false s h = rw (idle-kind s (h refl)) (ltb-true 0 1 refl)
+
+left-none : (power foreign : Bool) (n : ℕ) → (power ≡ false → n ≡ 0) → (0 < n → foreign ≡ false) → (power && not foreign) ≡ false → n ≡ 0
+left-none false foreign n h g e = h refl
+left-none true false n h g e = absurd (true-false refl e)
+left-none true true zero h g e = refl
+left-none true true (suc n) h g e = absurd (true-false refl (g (omega arith)))
+
+module _ (part : ℕ) (w : World) (s : Sound part w) where
+  abbrev d : Device
+  d = w .device
+
+  abbrev ns : List ℕ
+  ns = numbersOf part w
+
+  abbrev size : ℕ
+  size = sizeOf part
+
+  -- the list from each of its pieces on
+  abbrev fromEeprom : List ℕ
+  fromEeprom = w .eeprom ++ w .id
+
+  abbrev fromTail : List ℕ
+  fromTail = tailNumbers (d .load) (d .cycle) ++ fromEeprom
+
+  abbrev fromLoad : List ℕ
+  fromLoad = d .load .bytes ++ fromTail
+
+  abbrev fromHead : List ℕ
+  fromHead = headNumbers d ++ fromLoad
+
+  from-33 : drop 33 ns ≡ d .sram ++ fromHead
+  unfolding numbersOf
+  from-33 = drop-at (d .regs) (d .sram ++ fromHead) 32 (s .shaped .sized .regs)
+
+  from-97 : drop 97 ns ≡ fromHead
+  from-97 = sym (drop-drop 64 33 ns) ∙ ap (drop 64) from-33 ∙ drop-at (d .sram) fromHead 64 (s .shaped .sized .sram)
+
+  from-111 : drop 111 ns ≡ fromLoad
+  from-111 = sym (drop-drop 14 97 ns) ∙ ap (drop 14) from-97
+
+  from-119 : drop 119 ns ≡ fromTail
+  from-119 = sym (drop-drop 8 111 ns) ∙ ap (drop 8) from-111 ∙ drop-at (d .load .bytes) fromTail 8 (s .shaped .sized .bytes)
+
+  from-123 : drop 123 ns ≡ fromEeprom
+  from-123 = sym (drop-drop 4 119 ns) ∙ ap (drop 4) from-119
+
+  from-id : drop (123 + size) ns ≡ w .id
+  from-id = sym (drop-drop size 123 ns) ∙ ap (drop size) from-123 ∙ drop-at (w .eeprom) (w .id) size (s .shaped .eeprom)
+
+  -- a number by its piece
+  at : (k : ℕ) {l : List ℕ} → drop k ns ≡ l → (j : ℕ) → getD ns (k + j) 0 ≡ getD l j 0
+  at k e j = sym (getD-drop k ns j 0) ∙ ap (λ (m : List ℕ). getD m j 0) e
+
+  inside : (x y : List ℕ) (n j : ℕ) → length x ≡ n → j < n → getD (x ++ y) j 0 ≡ getD x j 0
+  inside x y n j e h = List·getD-append x y 0 j (subst (λ (m : ℕ). j < m) (sym e) h)
+
+  at-register : (j : ℕ) → j < 32 → registerIn ns j ≡ getD (d .regs) j 0
+  unfolding numbersOf
+  at-register j h = at 1 refl j ∙ inside (d .regs) (d .sram ++ fromHead) 32 j (s .shaped .sized .regs) h
+
+  -- the numbers of the record that stand alone
+  head-at : (j : ℕ) → getD ns (97 + j) 0 ≡ getD fromHead j 0
+  head-at j = at 97 from-97 j
+
+  tail-at : (j : ℕ) → getD ns (119 + j) 0 ≡ getD fromTail j 0
+  tail-at j = at 119 from-119 j
+
+  stage-told : stageIn ns ≡ d .frame .stage
+  stage-told = (λ i. stageOf (head-at 10 i) (head-at 11 i) (head-at 12 i)) ∙ stage-back (d .frame .stage)
+
+  target-told : targetOf (getD ns 120 0) (getD ns 121 0) ≡ d .cycle .target
+  target-told = (λ i. targetOf (tail-at 1 i) (tail-at 2 i)) ∙ target-back (d .cycle .target)
+
+  power-told : powerIn ns ≡ d .power
+  power-told = ap (λ (n : ℕ). eqb n 1) (head-at 5) ∙ flag-back (d .power)
+
+  -- the whole list is the chip
+  pub part-back : partIn ns ≡ part
+  unfolding numbersOf
+  part-back = refl
+
+  regs-told : take 32 (drop 1 ns) ≡ d .regs
+  unfolding numbersOf
+  regs-told = take-at (d .regs) (d .sram ++ fromHead) 32 (s .shaped .sized .regs)
+
+  sram-told : take 64 (drop 33 ns) ≡ d .sram
+  sram-told = ap (take 64) from-33 ∙ take-at (d .sram) fromHead 64 (s .shaped .sized .sram)
+
+  load-told : take 8 (drop 111 ns) ≡ d .load .bytes
+  load-told = ap (take 8) from-111 ∙ take-at (d .load .bytes) fromTail 8 (s .shaped .sized .bytes)
+
+  device-told : deviceOf ns ≡ d
+  device-told i =
+      record {
+        regs = regs-told i;
+        sram = sram-told i;
+        counters = record { divider = head-at 0 i; startup = head-at 1 i; watchdog = head-at 2 i; delay = head-at 3 i; pulse = head-at 4 i };
+        power = power-told i;
+        mark = (ap (λ (n : ℕ). eqb n 1) (head-at 6) ∙ flag-back (d .mark)) i;
+        guard =
+            record {
+              wel = (ap (λ (n : ℕ). eqb n 1) (head-at 7) ∙ flag-back (d .guard .wel)) i;
+              protection = (ap protectionOf (head-at 8) ∙ protection-back (d .guard .protection)) i;
+              lock = (ap lockOf (head-at 9) ∙ lock-back (d .guard .lock)) i;
+            };
+        frame = record { stage = stage-told i };
+        load = record { offsets = head-at 13 i; bytes = load-told i; next = tail-at 0 i };
+        cycle = record { target = target-told i; left = tail-at 3 i };
+      }
+
+  eeprom-told : take (sizeOf (partIn ns)) (drop 123 ns) ≡ w .eeprom
+  eeprom-told =
+      ap (λ (p : ℕ). take (sizeOf p) (drop 123 ns)) part-back ∙ ap (take size) from-123 ∙ take-at (w .eeprom) (w .id) size (s .shaped .eeprom)
+
+  id-told : take idSize (drop (123 + sizeOf (partIn ns)) ns) ≡ w .id
+  id-told =
+      ap (λ (p : ℕ). take idSize (drop (123 + sizeOf p) ns)) part-back ∙ ap (take 16) from-id ∙ take-all 16 (w .id) (le-of-eq (s .shaped .id))
+
+  pub world-back : worldOf ns ≡ w
+  unfolding worldOf
+  world-back i = world (device-told i) (eeprom-told i) (id-told i)
+
+  -- its length
+  piece-long : (n m : ℕ) (l : List ℕ) → drop 123 ns ≡ l → length l ≡ n + m → 0 < m → length ns ≡ 123 + n + m
+  piece-long n m l e h z = omega (arith, length-drop 123 ns, ap length e, h, z)
+
+  chip-long : length ns ≡ 123 + size + idSize
+  chip-long =
+      piece-long size 16 fromEeprom from-123 (length-append (w .eeprom) (w .id) ∙ (λ i. s .shaped .eeprom i + s .shaped .id i)) (ltb-true 0 16 refl)
+
+  -- bytes by their piece
+  bytes-in : (k n : ℕ) (x y : List ℕ) → drop k ns ≡ x ++ y → length x ≡ n → Bytes x → BytesFrom ns k n
+  bytes-in k n x y e l b j h = subst (λ (v : ℕ). v < 256) (sym (at k e j ∙ inside x y n j l h)) (b j)
+
+  startup-limit : startupLimit ns ≡ startupBy (bootsOf part) (st (d .regs))
+  startup-limit i = startupBy (bootsOf (part-back i)) (bit (at-register 1 (ltb-true 1 32 refl) i) 7)
+
+  left-limit : leftLimit ns ≡ leftBy (d .power) (foreignToWip (d .frame .stage))
+  left-limit i = leftBy (power-told i) (foreignToWip (stage-told i))
+
+  pub sound-facts : Facts ns
+  sound-facts =
+      let c = s .range .clock in
+      let q = s .range .power in
+      let g = d .frame .stage in
+      record {
+        long = chip-long ∙ ap (λ (p : ℕ). 123 + sizeOf p + idSize) (sym part-back);
+        part = ap isPart part-back ∙ s .named;
+        regBytes = λ j h. low (at-register j h) refl (register-byte j (getD (d .regs) j 0) h (c .inside j h));
+        regs = λ j h. (λ i. bitAnd (at-register j h i) (getD kept j 0)) ∙ c .inside j h ∙ sym (at-register j h);
+        sram = bytes-in 33 64 (d .sram) fromHead from-33 (s .shaped .sized .sram) (s .shaped .sized .sramBytes);
+        divider = low (head-at 0) refl (c .divider);
+        startup =
+            low (head-at 1) startup-limit
+            (open-limit (bootsOf part || st (d .regs)) (d .counters .startup) startupTicks (above-none (c .startup))
+            (λ f. c .stopped (neither-left (bootsOf part) (st (d .regs)) f) (neither-right (bootsOf part) (st (d .regs)) f)));
+        watchdog = low (head-at 2) (ap watchdogBy (at-register 10 (ltb-true 10 32 refl))) (c .watchdog);
+        delay = low (head-at 3) refl (above-none (c .delay));
+        pulse = low (head-at 4) refl (above-none (c .pulse));
+        power = low (head-at 5) refl (flag-below (d .power));
+        mark = low (head-at 6) (λ i. markBy (power-told i)) (mark-below (d .power) (d .mark) (q .unmarked));
+        wel = low (head-at 7) refl (flag-below (d .guard .wel));
+        protection = low (head-at 8) refl (protection-below (d .guard .protection));
+        lock = low (head-at 9) refl (lock-below (d .guard .lock));
+        kind = low (head-at 10) (λ i. kindBy (power-told i)) (kind-within (d .power) g (q .idle));
+        which = (λ i. caseGood (head-at 10 i) (head-at 11 i)) ∙ case-good g;
+        value =
+            low (head-at 12) (λ i. valueLimit (sizeOf (part-back i)) (head-at 10 i) (head-at 11 i)) (value-below size g (s .range .frame .place) (s .carried));
+        offsets = low (head-at 13) refl (s .shaped .sized .offsets);
+        load = bytes-in 111 8 (d .load .bytes) fromTail from-111 (s .shaped .sized .bytes) (s .shaped .sized .loadBytes);
+        next = low (tail-at 0) refl (s .range .frame .offset);
+        target = low (tail-at 1) refl (target-kind-below (d .cycle .target));
+        place = low (tail-at 2) (λ i. targetLimit (sizeOf (part-back i)) (tail-at 1 i)) (target-below size (d .cycle .target) (s .range .cycle .place));
+        left =
+            low (tail-at 3) left-limit
+            (open-limit (d .power && not (foreignToWip g)) (d .cycle .left) cycleTicks (above-none (s .range .cycle .countdown))
+            (left-none (d .power) (foreignToWip g) (d .cycle .left) (q .still) (q .heard)));
+        eeprom =
+            subst (λ (p : ℕ). BytesFrom ns 123 (sizeOf p)) (sym part-back)
+            (bytes-in 123 size (w .eeprom) (w .id) from-123 (s .shaped .eeprom) (s .shaped .eepromBytes));
+        id =
+            subst (λ (p : ℕ). BytesFrom ns (123 + sizeOf p) idSize) (sym part-back)
+            (bytes-in (123 + size) 16 (w .id) [] (from-id ∙ sym (append-nil (w .id))) (s .shaped .id) (s .shaped .idBytes));
+      }
+
+-- power, mark, frame and cycle from their numbers
+power-from :
+    (power : Bool) (n : ℕ) (s : Stage) (y : Cycle) → n < markBy power → stageKind s < kindBy power
+    → y .left < leftBy power (foreignToWip s) → PowerRange power (eqb n 1) s y
+power-from true n s y h k l =
+    record {
+      unmarked = λ p. ne-eqb n 1 (λ q. omega (arith, h, q));
+      idle = λ p. absurd (true-false refl p);
+      still = λ p. absurd (true-false refl p);
+      heard = λ o.
+          by-cases (foreignToWip s)
+          (λ t. absurd (let z = limit-open (not (foreignToWip s)) (y .left) cycleTicks l .1 (ap not t) in omega (arith, z, o))) (λ t. t);
+    }
+power-from false n s y h k l =
+    record {
+      unmarked = λ p. absurd (true-false p refl);
+      idle = λ p. kind-idle s k;
+      still = λ p. omega (arith, l);
+      heard = λ o. absurd (omega (arith, l, o));
+    }
+
+-- The other way: numbers for which the facts hold.
+module _ (ms : List ℕ) (f : Facts ms) where
+  abbrev e : Device
+  e = deviceOf ms
+
+  abbrev room : ℕ
+  room = sizeOf (partIn ms)
+
+  -- a piece of the list, its length and its bytes
+  piece-at : (k n : ℕ) → (j : ℕ) → j < n → getD (take n (drop k ms)) j 0 ≡ getD ms (k + j) 0
+  piece-at k n j h = getD-take n (drop k ms) j 0 h ∙ getD-drop k ms j 0
+
+  piece-length : (k n : ℕ) → k + n ≤ length ms → length (take n (drop k ms)) ≡ n
+  piece-length k n h = length-take-le n (drop k ms) (left-over (length-drop k ms) h)
+    where
+      left-over : {a b : ℕ} → a ≡ b - k → k + n ≤ b → n ≤ a
+      left-over g h = omega (arith, g, h)
+
+  piece-bytes : (k n : ℕ) → k + n ≤ length ms → BytesFrom ms k n → Bytes (take n (drop k ms))
+  piece-bytes k n h b j =
+      by-cases (ltb j n) (λ t. low (piece-at k n j (ltb-true j n t)) refl (b j (ltb-true j n t)))
+      (λ t.
+      let past : length (take n (drop k ms)) ≤ j = omega (arith, piece-length k n h, ltb-false j n t) in
+      rw (List·getD-eq-default (take n (drop k ms)) 0 {n = j} past) (ltb-true 0 256 refl))
+
+  fits : (k : ℕ) → leb k 123 ≡ true → k ≤ length ms
+  fits k t = within room (leb-true k 123 t) (f .long)
+    where
+      within : {a b : ℕ} (m : ℕ) → a ≤ 123 → b ≡ 123 + m + 16 → a ≤ b
+      within m h g = omega (arith, h, g)
+
+  stage-is : StageFrom room (getD ms 107 0) (getD ms 108 0) (getD ms 109 0) (stageIn ms)
+  stage-is =
+      stage-from room (size-some (partIn ms)) (size-most (partIn ms)) (getD ms 107 0) (getD ms 108 0) (getD ms 109 0) (kind-low (powerIn ms) (f .kind)) (f .which)
+      (f .value)
+    where
+      kind-low : {k : ℕ} (p : Bool) → k < kindBy p → k < 8
+      kind-low true h = h
+      kind-low false h = omega (arith, h)
+
+  target-is : TargetFrom room (getD ms 120 0) (getD ms 121 0) (targetOf (getD ms 120 0) (getD ms 121 0))
+  target-is = target-from room (getD ms 120 0) (getD ms 121 0) (size-some (partIn ms)) (f .target) (f .place)
+
+  -- the registers of the piece
+  register-told : (j : ℕ) → j < 32 → getD (e .regs) j 0 ≡ registerIn ms j
+  register-told j h = piece-at 1 32 j h
+
+  clock-in : ClockRange (bootsOf (partIn ms)) (e .regs) (e .counters)
+  clock-in =
+      let t = bootsOf (partIn ms) || bit (registerIn ms secondsAt) 7 in
+      let l = limit-open t (getD ms 98 0) startupTicks (f .startup) in
+      record {
+        divider = f .divider;
+        startup = l .0;
+        pulse = no-more (f .pulse);
+        delay = no-more (f .delay);
+        watchdog = low refl (ap periodOf (register-told 10 (ltb-true 10 32 refl))) (f .watchdog);
+        stopped = λ b o. l .1 (neither b (ap (λ (v : ℕ). bit v 7) (sym (register-told 1 (ltb-true 1 32 refl))) ∙ o));
+        inside = λ k h. (λ i. bitAnd (register-told k h i) (getD kept k 0)) ∙ f .regs k h ∙ sym (register-told k h);
+      }
+    where
+      no-more : {n m : ℕ} → n < 1 + m → n ≤ m
+      no-more h = omega (arith, h)
+
+  power-in : PowerRange (e .power) (e .mark) (e .frame .stage) (e .cycle)
+  power-in = power-from (powerIn ms) (getD ms 103 0) (stageIn ms) (e .cycle) (f .mark) (low (stage-is .kind) refl (f .kind)) (f .left)
+
+  pub facts-sound : Sound (partIn ms) (worldOf ms)
+  unfolding worldOf
+  facts-sound =
+      record {
+        named = f .part;
+        range =
+            record {
+              clock = clock-in;
+              frame = record { offset = f .next; place = stage-is .place };
+              cycle = record { countdown = limit-open (powerIn ms && not (foreignToWip (stageIn ms))) (getD ms 122 0) cycleTicks (f .left) .0; place = target-is .place };
+              power = power-in;
+            };
+        shaped =
+            record {
+              sized =
+                  record {
+                    regs = piece-length 1 32 (fits 33 refl);
+                    sram = piece-length 33 64 (fits 97 refl);
+                    bytes = piece-length 111 8 (fits 119 refl);
+                    offsets = f .offsets;
+                    sramBytes = piece-bytes 33 64 (fits 97 refl) (f .sram);
+                    loadBytes = piece-bytes 111 8 (fits 119 refl) (f .load);
+                  };
+              eeprom = piece-length 123 room (le-eeprom room (f .long));
+              id = piece-length (123 + room) 16 (le-of-eq (sym (f .long)));
+              eepromBytes = piece-bytes 123 room (le-eeprom room (f .long)) (f .eeprom);
+              idBytes = piece-bytes (123 + room) 16 (le-of-eq (sym (f .long))) (f .id);
+            };
+        carried = stage-is .byte;
+      }
+    where
+      le-eeprom : {n : ℕ} (m : ℕ) → n ≡ 123 + m + 16 → 123 + m ≤ n
+      le-eeprom m h = omega (arith, h)
+
+  -- one number before the rest of the list, and a piece of it
+  one : (k : ℕ) {v : ℕ} {l : List ℕ} → leb (suc k) 123 ≡ true → v ≡ getD ms k 0 → l ≡ drop (suc k) ms → _≡_ {A = List ℕ} (v ∷ l) (drop k ms)
+  one k t p q = (λ i. p i ∷ q i) ∙ sym (drop-cons ms k 0 (fits (suc k) t))
+
+  piece : (k n : ℕ) {l : List ℕ} → l ≡ drop (k + n) ms → take n (drop k ms) ++ l ≡ drop k ms
+  piece k n q = ap (λ (x : List ℕ). take n (drop k ms) ++ x) (q ∙ sym (drop-drop n k ms)) ∙ take-append-drop n (drop k ms)
+
+  rest-short : {n : ℕ} (m : ℕ) → n ≡ 123 + m + 16 → n - (123 + m) ≤ 16
+  rest-short m h = omega (arith, h)
+
+  pub numbers-back : numbersOf (partIn ms) (worldOf ms) ≡ ms
+  unfolding numbersOf worldOf
+  numbers-back =
+      one 0 refl refl
+      (piece 1 32
+      (piece 33 64
+      (one 97 refl refl
+      (one 98 refl refl
+      (one 99 refl refl
+      (one 100 refl refl
+      (one 101 refl refl
+      (one 102 refl (flag-of (getD ms 102 0) (f .power))
+      (one 103 refl (flag-of (getD ms 103 0) (mark-low (powerIn ms) (f .mark)))
+      (one 104 refl (flag-of (getD ms 104 0) (f .wel))
+      (one 105 refl (protection-of (getD ms 105 0) (f .protection))
+      (one 106 refl (lock-of (getD ms 106 0) (f .lock))
+      (one 107 refl (stage-is .kind)
+      (one 108 refl (stage-is .which)
+      (one 109 refl (stage-is .value)
+      (one 110 refl refl
+      (piece 111 8
+      (one 119 refl refl
+      (one 120 refl (target-is .kind)
+      (one 121 refl (target-is .value)
+      (one 122 refl refl
+      (piece 123 room
+      (take-all 16 (drop (123 + room) ms) (subst (λ (n : ℕ). n ≤ 16) (sym (length-drop (123 + room) ms)) (rest-short room (f .long))))))))))))))))))))))))))
+    where
+      mark-low : {k : ℕ} (p : Bool) → k < markBy p → k < 2
+      mark-low true h = omega (arith, h)
+      mark-low false h = h
+
+-- Together: the numbers of a chip in range, and the chip of good numbers.
+pub sound-numbers : (part : ℕ) (w : World) → Sound part w → IsChip (numbersOf part w)
+sound-numbers part w s = facts-good (numbersOf part w) (sound-facts part w s)
+
+pub chip-sound : (ns : List ℕ) → IsChip ns → Sound (partIn ns) (worldOf ns)
+chip-sound ns g = facts-sound ns (good-facts ns g)
+
+pub chip-numbers : (ns : List ℕ) → IsChip ns → numbersOf (partIn ns) (worldOf ns) ≡ ns
+chip-numbers ns g = numbers-back ns (good-facts ns g)

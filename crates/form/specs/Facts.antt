@@ -1,0 +1,43 @@
+-- What the table says of a list of numbers, place by place, as the facts that a proof uses. Not the table: FactLaws ties the two.
+-- Assumes nothing.
+use Prim.Native.Nat.{ℕ, _+_, _<_}
+use mathlib.Core.Path.{_≡_}
+use mathlib.Core.Bool.{true}
+use mathlib.Core.List.{List}
+use lib.Bits.{bitAnd}
+use lib.ListN.{length, getD}
+use Rattle.record.specs.Part.{isPart, sizeOf, idSize}
+use Rattle.record.specs.Registers.{kept, dividerTicks, longPulse, delayTicks}
+use Rattle.form.specs.Table.{partIn, registerIn, startupLimit, watchdogLimit, markLimit, kindLimit, caseGood, valueLimit, targetLimit, leftLimit}
+
+-- from place k on, so many numbers are bytes
+abbrev pub BytesFrom : List ℕ → ℕ → ℕ → Type 0
+BytesFrom ns k n = (j : ℕ) → j < n → getD ns (k + j) 0 < 256
+
+pub record Facts (ns : List ℕ) : Type 0 where
+  pub long : length ns ≡ 123 + sizeOf (partIn ns) + idSize
+  pub part : isPart (partIn ns) ≡ true
+  pub regBytes : BytesFrom ns 1 32
+  pub regs : (j : ℕ) → j < 32 → bitAnd (registerIn ns j) (getD kept j 0) ≡ registerIn ns j
+  pub sram : BytesFrom ns 33 64
+  pub divider : getD ns 97 0 < dividerTicks
+  pub startup : getD ns 98 0 < startupLimit ns
+  pub watchdog : getD ns 99 0 < watchdogLimit ns
+  pub delay : getD ns 100 0 < 1 + delayTicks
+  pub pulse : getD ns 101 0 < 1 + longPulse
+  pub power : getD ns 102 0 < 2
+  pub mark : getD ns 103 0 < markLimit ns
+  pub wel : getD ns 104 0 < 2
+  pub protection : getD ns 105 0 < 4
+  pub lock : getD ns 106 0 < 3
+  pub kind : getD ns 107 0 < kindLimit ns
+  pub which : caseGood (getD ns 107 0) (getD ns 108 0) ≡ true
+  pub value : getD ns 109 0 < valueLimit (sizeOf (partIn ns)) (getD ns 107 0) (getD ns 108 0)
+  pub offsets : getD ns 110 0 < 256
+  pub load : BytesFrom ns 111 8
+  pub next : getD ns 119 0 < 8
+  pub target : getD ns 120 0 < 3
+  pub place : getD ns 121 0 < targetLimit (sizeOf (partIn ns)) (getD ns 120 0)
+  pub left : getD ns 122 0 < leftLimit ns
+  pub eeprom : BytesFrom ns 123 (sizeOf (partIn ns))
+  pub id : BytesFrom ns (123 + sizeOf (partIn ns)) idSize

@@ -1,0 +1,1 @@
+// The saved form: definitions and laws, no function.

@@ -1,0 +1,222 @@
+-- Laws of the table as code has it: a row by its number.
+-- Assumes nothing.
+use mathlib.Core.Path.{_≡_, refl, sym, ap, subst, _∙_}
+use mathlib.Core.Logic.{_≢_}
+use mathlib.Core.Bool.{Bool, true, false, not, _&&_, _||_}
+use mathlib.Core.List.{List, [], _∷_}
+use Prim.Native.Nat.{ℕ, zero, suc, _%_, _<_, _≤_}
+use native.Mathlib.Omega.{arith}
+use borrow.Author.Tests.{eq-eqb, ne-eqb, eqb-true, eqb-false, lt-ltb, le-ltb}
+use lib.Dec.{ltb, eqb}
+use lib.Bits.{bitAnd}
+use lib.ListN.{getD, List·getD-eq-default}
+use Rattle.base.specs.Words.{pick, bit, every}
+use Rattle.base.proofs.Tests.{by-cases, pick-case, yes, no}
+use Rattle.base.proofs.Every.{every-at, same-below}
+use Rattle.record.specs.Codes.{codeOf, codeNumber, heardUnderWip}
+use Rattle.record.specs.declared.Code.the-variants.{Srread, Read, Write, Clrwdt, Clrram}
+use Rattle.record.specs.declared.Long.{Long}
+use Rattle.record.specs.declared.Pair.{Pair}
+use Rattle.record.specs.Numbers.{placeOf, pairOf, longOf, stageOf}
+use Rattle.record.specs.Part.{isPart, sizeOf, bootsOf}
+use Rattle.record.specs.Registers.{secondsAt, watchdogAt, kept, periods, periodOf}
+use Rattle.record.specs.Stages.{readingCode, writingCode, secondCode, overCode, foreignToWip}
+use Rattle.record.proofs.CodeLaws.{code-test}
+use Rattle.form.specs.Table.{rows, partIn, registerIn, powerIn, startupLimit, markLimit, kindLimit, caseLimit, caseGood, valueLimit, targetLimit, leftLimit, stageGood, targetGood, partRow, registerRow, sramRow, dividerRow, startupRow, watchdogRow, delayRow, pulseRow, powerRow, markRow, welRow, protectionRow, lockRow, stageRow, offsetsRow, loadRow, nextRow, targetRow, leftRow, eepromRow, idRow}
+use Rattle.numbers.specs.Tables.{rowAt, rowCount, widths, lineCounts, linesBy, limits, foreignBy}
+
+pub row-width : (i : ℕ) → i < rowCount → getD widths i 0 ≡ rowAt i .width
+unfolding every rowAt rows partRow registerRow sramRow dividerRow startupRow watchdogRow delayRow pulseRow powerRow markRow welRow protectionRow lockRow stageRow offsetsRow loadRow nextRow targetRow leftRow eepromRow idRow
+row-width i h = same-below (λ (k : ℕ). getD widths k 0) (λ (k : ℕ). rowAt k .width) 21 refl i h
+
+pub row-lines : (b : List ℕ) (i : ℕ) → i < rowCount → rowAt i .lines b ≡ linesBy i (partIn b)
+unfolding every rowAt rows partRow registerRow sramRow dividerRow startupRow watchdogRow delayRow pulseRow powerRow markRow welRow protectionRow lockRow stageRow offsetsRow loadRow nextRow targetRow leftRow eepromRow idRow
+row-lines b i h =
+    by-cases (eqb i 19) (λ t. rw (eqb-true i 19 t))
+    (λ f. rw f (eqb-true _ _ (other f (every-at (λ (k : ℕ). eqb k 19 || eqb (rowAt k .lines b) (getD lineCounts k 0)) 21 refl i h))))
+  where
+    other : {t u : Bool} → t ≡ false → (t || u) ≡ true → u ≡ true
+    other e g = rw e at g
+
+-- the rows whose limit is one number
+pub row-limit :
+    (i : ℕ) → i < rowCount → i ≢ 0 → i ≢ 1 → i ≢ 4 → i ≢ 5 → i ≢ 9 → i ≢ 13 → i ≢ 17 → i ≢ 18 → (b : List ℕ) (j n : ℕ)
+    → ltb n (getD limits i 0) ≡ rowAt i .good b j n
+unfolding rowAt rows partRow registerRow sramRow dividerRow startupRow watchdogRow delayRow pulseRow powerRow markRow welRow protectionRow lockRow stageRow offsetsRow loadRow nextRow targetRow leftRow eepromRow idRow
+row-limit zero h e0 e1 e4 e5 e9 e13 e17 e18 b j n = absurd (e0 refl)
+row-limit (suc zero) h e0 e1 e4 e5 e9 e13 e17 e18 b j n = absurd (e1 refl)
+row-limit (suc (suc zero)) h e0 e1 e4 e5 e9 e13 e17 e18 b j n = refl
+row-limit (suc (suc (suc zero))) h e0 e1 e4 e5 e9 e13 e17 e18 b j n = refl
+row-limit (suc (suc (suc (suc zero)))) h e0 e1 e4 e5 e9 e13 e17 e18 b j n = absurd (e4 refl)
+row-limit (suc (suc (suc (suc (suc zero))))) h e0 e1 e4 e5 e9 e13 e17 e18 b j n = absurd (e5 refl)
+row-limit (suc (suc (suc (suc (suc (suc zero)))))) h e0 e1 e4 e5 e9 e13 e17 e18 b j n = refl
+row-limit (suc (suc (suc (suc (suc (suc (suc zero))))))) h e0 e1 e4 e5 e9 e13 e17 e18 b j n = refl
+row-limit (suc (suc (suc (suc (suc (suc (suc (suc zero)))))))) h e0 e1 e4 e5 e9 e13 e17 e18 b j n = refl
+row-limit (suc (suc (suc (suc (suc (suc (suc (suc (suc zero))))))))) h e0 e1 e4 e5 e9 e13 e17 e18 b j n = absurd (e9 refl)
+row-limit (suc (suc (suc (suc (suc (suc (suc (suc (suc (suc zero)))))))))) h e0 e1 e4 e5 e9 e13 e17 e18 b j n = refl
+row-limit (suc (suc (suc (suc (suc (suc (suc (suc (suc (suc (suc zero))))))))))) h e0 e1 e4 e5 e9 e13 e17 e18 b j n = refl
+row-limit (suc (suc (suc (suc (suc (suc (suc (suc (suc (suc (suc (suc zero)))))))))))) h e0 e1 e4 e5 e9 e13 e17 e18 b j n = refl
+row-limit (suc (suc (suc (suc (suc (suc (suc (suc (suc (suc (suc (suc (suc zero))))))))))))) h e0 e1 e4 e5 e9 e13 e17 e18 b j n = absurd (e13 refl)
+row-limit (suc (suc (suc (suc (suc (suc (suc (suc (suc (suc (suc (suc (suc (suc zero)))))))))))))) h e0 e1 e4 e5 e9 e13 e17 e18 b j n = refl
+row-limit (suc (suc (suc (suc (suc (suc (suc (suc (suc (suc (suc (suc (suc (suc (suc zero))))))))))))))) h e0 e1 e4 e5 e9 e13 e17 e18 b j n = refl
+row-limit (suc (suc (suc (suc (suc (suc (suc (suc (suc (suc (suc (suc (suc (suc (suc (suc zero)))))))))))))))) h e0 e1 e4 e5 e9 e13 e17 e18 b j n = refl
+row-limit (suc (suc (suc (suc (suc (suc (suc (suc (suc (suc (suc (suc (suc (suc (suc (suc (suc zero))))))))))))))))) h e0 e1 e4 e5 e9 e13 e17 e18 b j n = absurd (e17 refl)
+row-limit (suc (suc (suc (suc (suc (suc (suc (suc (suc (suc (suc (suc (suc (suc (suc (suc (suc (suc zero)))))))))))))))))) h e0 e1 e4 e5 e9 e13 e17 e18 b j n = absurd (e18 refl)
+row-limit (suc (suc (suc (suc (suc (suc (suc (suc (suc (suc (suc (suc (suc (suc (suc (suc (suc (suc (suc zero))))))))))))))))))) h e0 e1 e4 e5 e9 e13 e17 e18 b j n = refl
+row-limit (suc (suc (suc (suc (suc (suc (suc (suc (suc (suc (suc (suc (suc (suc (suc (suc (suc (suc (suc (suc zero)))))))))))))))))))) h e0 e1 e4 e5 e9 e13 e17 e18 b j n = refl
+row-limit (suc (suc (suc (suc (suc (suc (suc (suc (suc (suc (suc (suc (suc (suc (suc (suc (suc (suc (suc (suc (suc i))))))))))))))))))))) h e0 e1 e4 e5 e9 e13 e17 e18 b j n = absurd (omega arith)
+
+-- a stage's frame by kind and case
+reading-foreign : (c v : ℕ) → not (eqb c 1) ≡ not (heardUnderWip (readingCode (placeOf c v)))
+reading-foreign c v =
+    by-cases (eqb c 0) (λ t. rw (eqb-true c 0 t)) (λ t. by-cases (eqb c 1) (λ u. rw (eqb-true c 1 u)) (λ u. rw (t, u)))
+
+writing-foreign : (c v : ℕ) → not (eqb c 1) ≡ not (heardUnderWip (writingCode (placeOf c v)))
+writing-foreign c v =
+    by-cases (eqb c 0) (λ t. rw (eqb-true c 0 t)) (λ t. by-cases (eqb c 1) (λ u. rw (eqb-true c 1 u)) (λ u. rw (t, u)))
+
+second-foreign : (c v : ℕ) → ltb c 2 ≡ not (heardUnderWip (secondCode (pairOf c v)))
+second-foreign c v =
+    by-cases (eqb c 0) (λ t. rw (eqb-true c 0 t))
+    (λ t.
+    by-cases (eqb c 1) (λ u. rw (eqb-true c 1 u))
+    (λ u. rw (t, u, le-ltb c 2 (above c t u)) (pick-case (λ (q : Pair). false ≡ not (heardUnderWip (secondCode q))) (eqb c 2) refl refl)))
+  where
+    above : (n : ℕ) → eqb n 0 ≡ false → eqb n 1 ≡ false → 2 ≤ n
+    above n e f = omega (arith, eqb-false n 0 e, eqb-false n 1 f)
+
+over-foreign : (c : ℕ) → not (eqb c 2 || eqb c 3) ≡ not (heardUnderWip (overCode (longOf c)))
+over-foreign c =
+    by-cases (eqb c 2) (λ t. rw (eqb-true c 2 t))
+    (λ t.
+    by-cases (eqb c 3) (λ u. rw (eqb-true c 3 u))
+    (λ u.
+    rw (t, u)
+    (pick-case (λ (l : Long). true ≡ not (heardUnderWip (overCode l))) (eqb c 0) refl
+    (pick-case (λ (l : Long). true ≡ not (heardUnderWip (overCode l))) (eqb c 1) refl
+    (pick-case (λ (l : Long). true ≡ not (heardUnderWip (overCode l))) (eqb c 4) refl refl)))))
+
+pub foreign-is : (k c v : ℕ) → foreignBy k c ≡ foreignToWip (stageOf k c v)
+foreign-is k c v =
+    by-cases (eqb k 0) (λ t. rw (eqb-true k 0 t))
+    (λ t0.
+    by-cases (eqb k 1) (λ t. rw (eqb-true k 1 t))
+    (λ t1.
+    by-cases (eqb k 2) (λ t. rw (eqb-true k 2 t))
+    (λ t2.
+    by-cases (eqb k 3) (λ t. rw (eqb-true k 3 t))
+    (λ t3.
+    by-cases (eqb k 4) (λ t. rw (eqb-true k 4 t) (reading-foreign c v))
+    (λ t4.
+    by-cases (eqb k 5) (λ t. rw (eqb-true k 5 t) (writing-foreign c v))
+    (λ t5.
+    by-cases (eqb k 6) (λ t. rw (eqb-true k 6 t) (second-foreign c v))
+    (λ t6. rw (le-ltb k 3 (above k t0 t1 t2), t0, t1, t2, t3, t4, t5, t6) (over-foreign c))))))))
+  where
+    above : (n : ℕ) → eqb n 0 ≡ false → eqb n 1 ≡ false → eqb n 2 ≡ false → 3 ≤ n
+    above n e f g = omega (arith, eqb-false n 0 e, eqb-false n 1 f, eqb-false n 2 g)
+
+-- of 0Ah only the lowest bits set the period
+pub period-rest : (v : ℕ) → periodOf (v % 8) ≡ periodOf v
+period-rest v = ap (λ (k : ℕ). getD periods k 0) (rest v)
+  where
+    rest : (n : ℕ) → n % 8 % 8 ≡ n % 8
+    rest n = omega arith
+
+pub case-limit-past : (k : ℕ) → 8 ≤ k → 1 ≡ caseLimit k
+case-limit-past k h = sym (List·getD-eq-default (1 ∷ 1 ∷ 1 ∷ 256 ∷ 3 ∷ 3 ∷ 4 ∷ 6 ∷ []) 1 {n = k} h)
+
+pub case-limit-at : (k : ℕ) → k < 8 → getD (1 ∷ 1 ∷ 1 ∷ 256 ∷ 3 ∷ 3 ∷ 4 ∷ 6 ∷ []) k 0 ≡ caseLimit k
+unfolding every
+case-limit-at k h = same-below (λ (j : ℕ). getD (1 ∷ 1 ∷ 1 ∷ 256 ∷ 3 ∷ 3 ∷ 4 ∷ 6 ∷ []) j 0) caseLimit 8 refl k h
+
+-- an instruction byte that is heard while a cycle runs
+pub heard-codes : (b : ℕ) → (eqb b 0x05 || eqb b 0x13 || eqb b 0x12 || eqb b 0x44 || eqb b 0x54) ≡ heardUnderWip (codeOf b)
+heard-codes b i =
+    code-test Srread refl b i || code-test Read refl b i || code-test Write refl b i || code-test Clrwdt refl b i || code-test Clrram refl b i
+
+-- Limits by their tests, as code has them.
+pub startup-open : (b : List ℕ) (t : Bool) → t ≡ bootsOf (partIn b) → (t || bit (registerIn b secondsAt) 7) ≡ true → 33 ≡ startupLimit b
+startup-open b t e h = yes 33 1 (ap (λ (u : Bool). u || bit (registerIn b secondsAt) 7) (sym e) ∙ h)
+
+pub startup-shut : (b : List ℕ) (t : Bool) → t ≡ bootsOf (partIn b) → (t || bit (registerIn b secondsAt) 7) ≡ false → 1 ≡ startupLimit b
+startup-shut b t e h = no 33 1 (ap (λ (u : Bool). u || bit (registerIn b secondsAt) 7) (sym e) ∙ h)
+
+pub left-open :
+    (b : List ℕ) (t : Bool) → t ≡ foreignBy (getD b 107 0) (getD b 108 0) → (powerIn b && not t) ≡ true → 165 ≡ leftLimit b
+left-open b t e h =
+    yes 165 1 (ap (λ (u : Bool). powerIn b && not u) (sym (e ∙ foreign-is (getD b 107 0) (getD b 108 0) (getD b 109 0))) ∙ h)
+
+pub left-shut :
+    (b : List ℕ) (t : Bool) → t ≡ foreignBy (getD b 107 0) (getD b 108 0) → (powerIn b && not t) ≡ false → 1 ≡ leftLimit b
+left-shut b t e h =
+    no 165 1 (ap (λ (u : Bool). powerIn b && not u) (sym (e ∙ foreign-is (getD b 107 0) (getD b 108 0) (getD b 109 0))) ∙ h)
+
+-- the places of stage and target
+pub stage-kind-at : (b : List ℕ) (j n l : ℕ) → j ≡ 0 → l ≡ kindLimit b → ltb n l ≡ stageGood b j n
+stage-kind-at b j n l e h = ap (ltb n) h ∙ ap (λ (i : ℕ). stageGood b i n) (sym e)
+
+pub stage-case-at : (b : List ℕ) (j n : ℕ) {t : Bool} → j ≡ 1 → t ≡ caseGood (getD b 107 0) n → t ≡ stageGood b j n
+stage-case-at b j n e h = h ∙ ap (λ (i : ℕ). stageGood b i n) (sym e)
+
+pub stage-value-at :
+    (b : List ℕ) (j n s l : ℕ) → j ≢ 0 → j ≢ 1 → s ≡ sizeOf (partIn b) → l ≡ valueLimit s (getD b 107 0) (getD b 108 0) → ltb n l ≡ stageGood b j n
+stage-value-at b zero n s l e f h g = absurd (e refl)
+stage-value-at b (suc zero) n s l e f h g = absurd (f refl)
+stage-value-at b (suc (suc j)) n s l e f h g = ap (ltb n) (g ∙ ap (λ (m : ℕ). valueLimit m (getD b 107 0) (getD b 108 0)) h)
+
+pub target-kind-at : (b : List ℕ) (j n : ℕ) → j ≡ 0 → ltb n 3 ≡ targetGood b j n
+target-kind-at b j n e = ap (λ (i : ℕ). targetGood b i n) (sym e)
+
+pub target-value-at :
+    (b : List ℕ) (j n s l : ℕ) → j ≢ 0 → s ≡ sizeOf (partIn b) → l ≡ targetLimit s (getD b 120 0) → ltb n l ≡ targetGood b j n
+target-value-at b zero n s l e h g = absurd (e refl)
+target-value-at b (suc j) n s l e h g = ap (ltb n) (g ∙ ap (λ (m : ℕ). targetLimit m (getD b 120 0)) h)
+
+-- a case past its limit, one that is no instruction's, and an instruction's byte
+pub case-past : (k n l : ℕ) → l ≡ caseLimit k → l ≤ n → false ≡ caseGood k n
+case-past k n l e h = sym (ap (λ (t : Bool). t && (not (eqb k 3) || eqb (codeNumber (codeOf n)) n)) (le-ltb n (caseLimit k) (subst (λ (m : ℕ). m ≤ n) e h)))
+
+pub case-within : (k n l : ℕ) → l ≡ caseLimit k → n < l → k ≢ 3 → true ≡ caseGood k n
+case-within k n l e h f = sym (λ i. lt-ltb n (caseLimit k) (subst (λ (m : ℕ). n < m) e h) i && (not (ne-eqb k 3 f i) || eqb (codeNumber (codeOf n)) n))
+
+pub case-code : (k n l : ℕ) {t : Bool} → l ≡ caseLimit k → n < l → k ≡ 3 → t ≡ eqb (codeNumber (codeOf n)) n → t ≡ caseGood k n
+case-code k n l e h f g =
+    g ∙ sym (λ i. lt-ltb n (caseLimit k) (subst (λ (m : ℕ). n < m) e h) i && (not (eq-eqb k 3 f i) || eqb (codeNumber (codeOf n)) n))
+
+pub case-byte : (k n l : ℕ) → l ≡ caseLimit k → n < l → k ≡ 3 → n < 256
+case-byte k n l e h f = subst (λ (m : ℕ). n < m) (e ∙ ap caseLimit f) h
+
+-- the rows whose limit depends on other numbers
+module _ (i : ℕ) (b : List ℕ) (j n : ℕ) where
+  pub part-good : i ≡ 0 → isPart n ≡ rowAt i .good b j n
+  unfolding rowAt rows partRow
+  part-good e = ap (λ (k : ℕ). rowAt k .good b j n) (sym e)
+
+  pub register-good : i ≡ 1 → (ltb n 256 && eqb (bitAnd n (getD kept j 0)) n) ≡ rowAt i .good b j n
+  unfolding rowAt rows registerRow
+  register-good e = ap (λ (k : ℕ). rowAt k .good b j n) (sym e)
+
+  pub startup-good : i ≡ 4 → ltb n (startupLimit b) ≡ rowAt i .good b j n
+  unfolding rowAt rows startupRow
+  startup-good e = ap (λ (k : ℕ). rowAt k .good b j n) (sym e)
+
+  pub watchdog-good : i ≡ 5 → ltb n (periodOf (registerIn b watchdogAt)) ≡ rowAt i .good b j n
+  unfolding rowAt rows watchdogRow
+  watchdog-good e = ap (λ (k : ℕ). rowAt k .good b j n) (sym e)
+
+  pub mark-good : i ≡ 9 → ltb n (markLimit b) ≡ rowAt i .good b j n
+  unfolding rowAt rows markRow
+  mark-good e = ap (λ (k : ℕ). rowAt k .good b j n) (sym e)
+
+  pub stage-good : i ≡ 13 → stageGood b j n ≡ rowAt i .good b j n
+  unfolding rowAt rows stageRow
+  stage-good e = ap (λ (k : ℕ). rowAt k .good b j n) (sym e)
+
+  pub target-good : i ≡ 17 → targetGood b j n ≡ rowAt i .good b j n
+  unfolding rowAt rows targetRow
+  target-good e = ap (λ (k : ℕ). rowAt k .good b j n) (sym e)
+
+  pub left-good : i ≡ 18 → ltb n (leftLimit b) ≡ rowAt i .good b j n
+  unfolding rowAt rows leftRow
+  left-good e = ap (λ (k : ℕ). rowAt k .good b j n) (sym e)

@@ -1,0 +1,31 @@
+-- `numbers::chip::device_of`: by its calls.
+-- Assumes nothing.
+use borrow.Author.Needs.{needs}
+use native.Mathlib.Omega.{arith}
+use Rattle.numbers.proofs.ChipLaws.{reach}
+use Rattle.numbers.proofs.chip.device_of.Statement.{statement}
+use Rattle.numbers.proofs.chip.device_of.Tie as tie
+
+shared-slice-read-t10 : tie.Need-shared-slice-read-t10
+shared-slice-read-t10 c =
+    let h = reach (c .before .before .before .before .before .before .before .before .before .args .numbers .now)
+    (c .before .before .before .before .before .before .before .before .before .pre) in
+    omega arith
+
+shared-slice-read-t13 : tie.Need-shared-slice-read-t13
+shared-slice-read-t13 c =
+    let h = reach (c .before .before .before .before .before .before .before .before .before .before .args .numbers .now)
+    (c .before .before .before .before .before .before .before .before .before .before .pre) in
+    omega arith
+
+returns : tie.Need-returns
+returns c =
+    simp
+    (c .before .before .cycle-of .ensures, c .before .before .before .load-of .ensures, c .before .before .before .before .stage-at .ensures, c .before .before .before .before .before .guard-of .ensures, c .before .before .before .before .before .before .counters-of .ensures, c .before .before .before .before .before .before .before .sram-of .ensures, c .before .before .before .before .before .before .before .before .registers-of .ensures)
+
+pub device-of-spec : {M : Type 1} → statement M
+device-of-spec =
+    tie.close
+    (tie.spec
+    (λ c κs. search needs) (λ c κs. search needs) (λ c κs. search needs) (λ c κs. search needs) (λ c κs. search needs) (λ c κs. search needs)
+    (λ c κs. search needs) shared-slice-read-t10 shared-slice-read-t13 returns)

@@ -1,0 +1,300 @@
+// The table of the saved form: of each row its lines and widths, and whether a number is good at a place, by those before it.
+use record::ClockAddress;
+use record::part;
+use record::registers;
+ghost use mathlib.Core.Path.{_≡_};
+ghost use Prim.Native.Nat.{_/_, _<_};
+ghost use mathlib.Core.Bool.{_&&_};
+ghost use lib.Dec.{ltb, eqb};
+ghost use lib.Bits.{bitAnd};
+ghost use lib.ListN.{length, getD};
+ghost use Rattle.base.specs.Words.{pick};
+ghost use Rattle.record.specs.Registers.{kept, periodOf};
+ghost use Rattle.record.specs.Codes.{codeOf, codeNumber, heardUnderWip};
+ghost use Rattle.form.specs.Table.{startupLimit, caseLimit, caseGood, addressLimit, valueLimit, targetLimit, leftLimit, stageGood, targetGood};
+ghost use Rattle.numbers.specs.Tables.{rowAt, rowCount, numberLimit, linesBy, foreignBy};
+
+// How many rows the table has, and how many numbers a part of 2 Kbit.
+pub const ROWS: usize = 21;
+
+pub const NUMBERS: usize = 395;
+
+const WIDTHS: [usize; ROWS] = [
+    1,
+    1,
+    8,
+    1,
+    1,
+    1,
+    1,
+    1,
+    1,
+    1,
+    1,
+    1,
+    1,
+    3,
+    1,
+    8,
+    1,
+    2,
+    1,
+    8,
+    8,
+];
+
+const LINES: [usize; ROWS] = [
+    1,
+    32,
+    8,
+    1,
+    1,
+    1,
+    1,
+    1,
+    1,
+    1,
+    1,
+    1,
+    1,
+    1,
+    1,
+    1,
+    1,
+    1,
+    1,
+    0,
+    2,
+];
+
+const EEPROM: usize = 19;
+
+// What a number of a row is less than, where that depends on no other; else 0.
+const LIMITS: [u64; ROWS] = [
+    0,
+    0,
+    256,
+    32768,
+    0,
+    0,
+    2097153,
+    4097,
+    2,
+    0,
+    2,
+    4,
+    3,
+    0,
+    256,
+    256,
+    8,
+    0,
+    0,
+    256,
+    256,
+];
+
+// How many cases a stage has, by its kind.
+const CASES: [u64; 8] = [1, 1, 1, 256, 3, 3, 4, 6];
+
+// How many numbers are on a line of a row.
+pub fn width(row: usize) -> usize
+    requires { ⌜ row < rowCount ⌝ }
+    ensures { λ r. ⌜ r ≡ rowAt row .width ⌝ }
+{
+    let widths = WIDTHS;
+    widths[row]
+}
+
+// How many lines a row has, by the part.
+pub fn lines(row: usize, part: u64) -> usize
+    requires { ⌜ row < rowCount ⌝ }
+    ensures { λ r. ⌜ r ≡ linesBy row part ⌝ }
+{
+    if row == EEPROM {
+        return (part::size(part) / 8) as usize;
+    }
+    let lines = LINES;
+    lines[row]
+}
+
+// A register's byte: no bit outside its mask.
+fn register_good(j: usize, n: u64) -> bool
+    requires { ⌜ j < 32 ⌝ }
+    ensures { λ r. ⌜ r ≡ (ltb n 256 && eqb (bitAnd n (getD kept j 0)) n) ⌝ }
+{
+    if 255 < n {
+        return false;
+    }
+    let b = n as u8;
+    (b & registers::kept_bits(ClockAddress(j as u8))) == b
+}
+
+fn startup_limit(numbers: &[u64]) -> u64
+    requires { ⌜ length (now numbers) ≡ numberLimit ⌝ }
+    ensures { λ r. ⌜ r ≡ startupLimit (now (numbers .entry)) ⌝ }
+{
+    let runs = part::boots(numbers[0]) | (numbers[2] / 128 % 2 == 1);
+    if runs { 33 } else { 1 }
+}
+
+// By the number of power.
+fn mark_limit(power: u64) -> u64
+    ensures { λ r. ⌜ r ≡ pick (eqb power 1) 1 2 ⌝ }
+{
+    if power == 1 { 1 } else { 2 }
+}
+
+fn kind_limit(power: u64) -> u64
+    ensures { λ r. ⌜ r ≡ pick (eqb power 1) 8 1 ⌝ }
+{
+    if power == 1 { 8 } else { 1 }
+}
+
+fn period(v: u64) -> u64
+    ensures { λ r. ⌜ r ≡ periodOf v ⌝ }
+{
+    registers::period((v % 8) as u8) as u64
+}
+
+// An instruction byte that is heard while a cycle runs.
+fn heard(which: u64) -> bool
+    ensures { λ r. ⌜ r ≡ heardUnderWip (codeOf which) ⌝ }
+{
+    (which == 0x05) | (which == 0x13) | (which == 0x12) | (which == 0x44) | (which == 0x54)
+}
+
+// A frame that is not heard while a cycle runs, by the kind and the case of its stage.
+fn foreign(kind: u64, which: u64) -> bool
+    ensures { λ r. ⌜ r ≡ foreignBy kind which ⌝ }
+{
+    if kind < 3 {
+        return false;
+    }
+    if kind == 3 {
+        return !heard(which);
+    }
+    if (kind == 4) | (kind == 5) {
+        return which != 1;
+    }
+    if kind == 6 {
+        return which < 2;
+    }
+    !((which == 2) | (which == 3))
+}
+
+fn case_limit(kind: u64) -> u64
+    ensures { λ r. ⌜ r ≡ caseLimit kind ⌝ }
+{
+    if kind < 8 {
+        let cases = CASES;
+        return cases[kind as usize];
+    }
+    1
+}
+
+fn case_good(kind: u64, n: u64) -> bool
+    ensures { λ r. ⌜ r ≡ caseGood kind n ⌝ }
+{
+    if case_limit(kind) <= n {
+        return false;
+    }
+    if kind != 3 {
+        return true;
+    }
+    if 255 < n {
+        return false;
+    }
+    let b = n as u8;
+    record::codes::code_of(b).number() == b
+}
+
+fn address_limit(size: u64, memory: u64) -> u64
+    ensures { λ r. ⌜ r ≡ addressLimit size memory ⌝ }
+{
+    if memory == 0 {
+        return size;
+    }
+    if memory == 1 {
+        return 256;
+    }
+    16
+}
+
+fn value_limit(size: u64, kind: u64, which: u64) -> u64
+    ensures { λ r. ⌜ r ≡ valueLimit size kind which ⌝ }
+{
+    if (kind == 4) | (kind == 5) {
+        return address_limit(size, which);
+    }
+    if (kind == 6) & (which < 2) {
+        return 256;
+    }
+    1
+}
+
+fn stage_good(numbers: &[u64], j: usize, n: u64) -> bool
+    requires { ⌜ length (now numbers) ≡ numberLimit ⌝ }
+    ensures { λ r. ⌜ r ≡ stageGood (now (numbers .entry)) j n ⌝ }
+{
+    if j == 0 {
+        return n < kind_limit(numbers[102]);
+    }
+    if j == 1 {
+        return case_good(numbers[107], n);
+    }
+    n < value_limit(part::size(numbers[0]) as u64, numbers[107], numbers[108])
+}
+
+fn target_limit(size: u64, kind: u64) -> u64
+    ensures { λ r. ⌜ r ≡ targetLimit size kind ⌝ }
+{
+    if kind == 0 {
+        return size;
+    }
+    if kind == 1 {
+        return 16;
+    }
+    4
+}
+
+fn target_good(numbers: &[u64], j: usize, n: u64) -> bool
+    requires { ⌜ length (now numbers) ≡ numberLimit ⌝ }
+    ensures { λ r. ⌜ r ≡ targetGood (now (numbers .entry)) j n ⌝ }
+{
+    if j == 0 {
+        return n < 3;
+    }
+    n < target_limit(part::size(numbers[0]) as u64, numbers[120])
+}
+
+fn left_limit(numbers: &[u64]) -> u64
+    requires { ⌜ length (now numbers) ≡ numberLimit ⌝ }
+    ensures { λ r. ⌜ r ≡ leftLimit (now (numbers .entry)) ⌝ }
+{
+    let open = (numbers[102] == 1) & !foreign(numbers[107], numbers[108]);
+    if open { 165 } else { 1 }
+}
+
+// Whether n is good as number j of a row, after the numbers of the list; those that have not come are 0.
+pub fn good(row: usize, numbers: &[u64], j: usize, n: u64) -> bool
+    requires { ⌜ row < rowCount ⌝ }
+    requires { ⌜ length (now numbers) ≡ numberLimit ⌝ }
+    requires { ⌜ (row ≡ 1 → j < 32) ⌝ }
+    ensures { λ r. ⌜ r ≡ rowAt row .good (now (numbers .entry)) j n ⌝ }
+{
+    match row {
+        0 => part::is_part(n),
+        1 => register_good(j, n),
+        4 => n < startup_limit(numbers),
+        5 => n < period(numbers[11]),
+        9 => n < mark_limit(numbers[102]),
+        13 => stage_good(numbers, j, n),
+        17 => target_good(numbers, j, n),
+        18 => n < left_limit(numbers),
+        _ => {
+            let limits = LIMITS;
+            n < limits[row]
+        }
+    }
+}

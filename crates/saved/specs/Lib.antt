@@ -1,0 +1,4 @@
+pub mod Reading
+pub mod Place
+pub mod Keys
+pub mod Answer
