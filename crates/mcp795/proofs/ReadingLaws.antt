@@ -80,7 +80,7 @@ on-fed l l′ i f =
     (i .0, (i .1 .0 ++ p .0, p .1))
 
 -- what a tape begins with that `start` answered, and that `resume` did
-pub start-fed : (l : Loan) → Begins l → IsFed l
+start-fed : (l : Loan) → Begins l → IsFed l
 start-fed l b = (emptySetup, ([], has-start l b))
 
 module _

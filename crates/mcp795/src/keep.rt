@@ -8,10 +8,15 @@ use record::Device;
 use saved::Loaded;
 use tape::Tape;
 use text::bytes;
+ghost use Prim.Native.Nat.{_≤_};
 ghost use mathlib.Core.Path.{_≡_};
 ghost use lib.ListN.{length};
-ghost use Rattle.tape.specs.Tape.{loan};
-ghost use Rattle.mcp795.specs.Reading.{IsFed, FedOn, RunsFrom};
+
+// A tape that was opened, and the length of its name.
+struct Source {
+    fd: i32,
+    length: usize,
+}
 
 // Room for a saved chip. The text of one has fewer bytes, so that the first bad line of a longer file begins in the first bytes, and is bad there too.
 const TEXT_ROOM: usize = 8192;
@@ -100,57 +105,86 @@ fn save_chip(save: usize, tape: Tape, eeprom: &[u8], id: &[u8]) {
     save_text(save, bytes::first(&text, saved.length));
 }
 
-// Answers a tape, or standard input where there is none.
-fn run_argument(
-    i: usize,
-    before: Tape,
-    line: &mut [u8],
-    eeprom: &mut [u8],
-    id: &mut [u8],
-) -> Reading
-    requires { ⌜ IsFed (loan before (now line) (now eeprom) (now id)) ⌝ }
-    ensures { λ r. ⌜ FedOn (loan before (now (line .entry)) (now (eeprom .entry)) (now (id .entry))) (loan (r .tape) (now (line .exit)) (now (eeprom .exit)) (now (id .exit))) ⌝ }
-{
-    if i == 0 {
-        return run::run_named(b"-", before, line, eeprom, id);
+// Tells that the file stays as it was, where there is one.
+fn tell_unsaved(save: usize) {
+    if 0 < save {
+        crate::tell_argument_text(save, b": not saved: the tape was not answered to its end\n");
     }
-    let mut space = io::buffer();
-    let n = os::arg(i, &mut space);
-    if os::errno() != 0 {
-        crate::tell_argument(i);
-        return Reading {
-            tape: before,
-            put: 0,
-            more: false,
-            whole: false,
-            open: true,
-        };
-    }
-    run::run_named(&space[..n], before, line, eeprom, id)
-}
-
-// Answers a tape that begins with a chip, or without a part where that is 0.
-fn run_chip(part: u64, device: Device, tape: usize, eeprom: &mut [u8], id: &mut [u8]) -> Reading
-    requires { ⌜ length (now eeprom) ≡ 256 ⌝ }
-    requires { ⌜ length (now id) ≡ 16 ⌝ }
-    ensures { λ r. ⌜ RunsFrom part device (now (eeprom .entry)) (now (id .entry)) (r .tape) (now (eeprom .exit)) (now (id .exit)) ⌝ }
-{
-    let mut line = [0u8; tape::chunk::HEAD_LIMIT];
-    let before = tape::chunk::resume(part, device, eeprom, id);
-    run_argument(tape, before, &mut line, eeprom, id)
 }
 
 // Saves the chip of a tape. Where the tape was not answered to its end, the file stays as it was, and the tape can be answered again from what it began with.
 fn save_ran(save: usize, ran: Reading, eeprom: &[u8], id: &[u8]) {
-    if save == 0 {
+    if !ran.whole {
+        tell_unsaved(save);
         return;
     }
-    if ran.whole {
+    if 0 < save {
         let tape = ran.tape;
         save_chip(save, tape, eeprom, id);
+    }
+}
+
+// Answers a tape that begins with a chip, and saves the chip that it leaves.
+fn run_open(
+    fd: i32,
+    name: &[u8],
+    save: usize,
+    part: u64,
+    device: Device,
+    eeprom: &mut [u8],
+    id: &mut [u8],
+)
+    requires { ⌜ length (now eeprom) ≡ 256 ⌝ }
+    requires { ⌜ length (now id) ≡ 16 ⌝ }
+{
+    let ran = run::run_tape(fd, name, part, device, eeprom, id);
+    save_ran(save, ran, eeprom, id);
+}
+
+// Opens the tape of an argument, or standard input, the dash, where there is none. The name is put into the array that is lent.
+fn open_argument(tape: usize, space: &mut [u8]) -> Source
+    requires { ⌜ 1 ≤ length (now space) ⌝ }
+{
+    if tape == 0 {
+        space[0] = b'-';
+        return Source {
+            fd: libc::STDIN_FILENO,
+            length: 1,
+        };
+    }
+    let n = os::arg(tape, space);
+    if os::errno() != 0 {
+        crate::tell_argument(tape);
+        return Source { fd: -1, length: 0 };
+    }
+    let fd = run::open(bytes::first(space, n));
+    Source { fd, length: n }
+}
+
+// The same by the place of the tape's argument, once it is seen that its chip can be saved.
+fn run_chip(save: usize, tape: usize, part: u64, device: Device, eeprom: &mut [u8], id: &mut [u8])
+    requires { ⌜ length (now eeprom) ≡ 256 ⌝ }
+    requires { ⌜ length (now id) ≡ 16 ⌝ }
+{
+    if !can_save(save) {
         return;
     }
-    crate::tell_argument_text(save, b": not saved: the tape was not answered to its end\n");
+    let mut space = io::buffer();
+    let source = open_argument(tape, &mut space);
+    if source.fd < 0 {
+        tell_unsaved(save);
+        return;
+    }
+    run_open(
+        source.fd,
+        bytes::first(&space, source.length),
+        save,
+        part,
+        device,
+        eeprom,
+        id,
+    );
+    run::close(source.fd);
 }
 
 // Answers a tape that begins with the chip of a text.
@@ -162,21 +196,15 @@ fn run_text(load: usize, text: &[u8], save: usize, tape: usize) {
         tell_refused(load, loaded.number, loaded.line);
         return;
     }
-    if can_save(save) {
-        let device = loaded.device;
-        let ran = run_chip(loaded.part, device, tape, &mut eeprom, &mut id);
-        save_ran(save, ran, &eeprom, &id);
-    }
+    let device = loaded.device;
+    run_chip(save, tape, loaded.part, device, &mut eeprom, &mut id);
 }
 
 // Answers a tape that begins without a part.
 fn run_new(save: usize, tape: usize) {
     let mut eeprom = [0u8; tape::chunk::EEPROM_ROOM];
     let mut id = [0u8; tape::chunk::ID_SIZE];
-    if can_save(save) {
-        let ran = run_chip(0, record::fresh_device(), tape, &mut eeprom, &mut id);
-        save_ran(save, ran, &eeprom, &id);
-    }
+    run_chip(save, tape, 0, record::fresh_device(), &mut eeprom, &mut id);
 }
 
 // Answers one tape, whose chip is loaded, or saved, or both.

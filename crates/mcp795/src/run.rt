@@ -1,4 +1,5 @@
 // One tape, from a descriptor to standard output. All answers to what has been read are written before more is read.
+use record::Device;
 use tape::Feed;
 use tape::Tape;
 use text::bytes;
@@ -8,7 +9,7 @@ ghost use mathlib.Core.Bool.{false};
 ghost use lib.ListN.{length};
 ghost use Rattle.lines.specs.Print.{answerRoom};
 ghost use Rattle.tape.specs.Tape.{loan};
-ghost use Rattle.mcp795.specs.Reading.{IsFed, FeedsAll, Ends, FeedsRead, FedOn};
+ghost use Rattle.mcp795.specs.Reading.{IsFed, FeedsAll, Ends, FeedsRead, FedOn, RunsFrom};
 
 // Bytes that are read at once; and room for the answers to all of them, were each a line of its own.
 const INPUT_ROOM: usize = 4096;
@@ -86,6 +87,15 @@ fn finish(
     put_out(last, out, false)
 }
 
+// Tells that a tape cannot be read.
+fn tell_unread(name: &[u8]) {
+    if check::same(name, b"-") {
+        crate::tell(b"standard input");
+        return;
+    }
+    crate::tell(name);
+}
+
 // Reads once, and answers what came.
 fn read_once(
     fd: i32,
@@ -104,7 +114,7 @@ fn read_once(
 {
     let got = libc::read(fd, input);
     if got < 0 {
-        crate::tell(name);
+        tell_unread(name);
         return Reading {
             tape: before,
             put: 0,
@@ -154,66 +164,69 @@ fn read_all(
     reading
 }
 
-// Answers the tape of a descriptor.
-fn run_tape(
+// Answers the tape of a descriptor. It begins with a chip, or without a part where that is 0.
+pub fn run_tape(
     fd: i32,
     name: &[u8],
-    before: Tape,
-    line: &mut [u8],
+    part: u64,
+    device: Device,
     eeprom: &mut [u8],
     id: &mut [u8],
 ) -> Reading
-    requires { ⌜ IsFed (loan before (now line) (now eeprom) (now id)) ⌝ }
-    ensures { λ r. ⌜ FedOn (loan before (now (line .entry)) (now (eeprom .entry)) (now (id .entry))) (loan (r .tape) (now (line .exit)) (now (eeprom .exit)) (now (id .exit))) ⌝ }
+    requires { ⌜ length (now eeprom) ≡ 256 ⌝ }
+    requires { ⌜ length (now id) ≡ 16 ⌝ }
+    ensures { λ r. ⌜ RunsFrom part device (now (eeprom .entry)) (now (id .entry)) (r .tape) (now (eeprom .exit)) (now (id .exit)) ⌝ }
 {
     let mut input = [0u8; INPUT_ROOM];
     let mut out = [0u8; OUT_ROOM];
-    read_all(fd, name, before, &mut input, line, eeprom, id, &mut out)
+    let mut line = [0u8; tape::chunk::HEAD_LIMIT];
+    let before = tape::chunk::resume(part, device, eeprom, id);
+    read_all(
+        fd,
+        name,
+        before,
+        &mut input,
+        &mut line,
+        eeprom,
+        id,
+        &mut out,
+    )
 }
 
-// Answers a tape by its name, from what it begins with. The dash is standard input.
-pub fn run_named(
-    name: &[u8],
-    before: Tape,
-    line: &mut [u8],
-    eeprom: &mut [u8],
-    id: &mut [u8],
-) -> Reading
-    requires { ⌜ IsFed (loan before (now line) (now eeprom) (now id)) ⌝ }
-    ensures { λ r. ⌜ FedOn (loan before (now (line .entry)) (now (eeprom .entry)) (now (id .entry))) (loan (r .tape) (now (line .exit)) (now (eeprom .exit)) (now (id .exit))) ⌝ }
-{
+// The descriptor of a tape, by its name; below 0 where it cannot be opened, and that has been told. The dash is standard input.
+pub fn open(name: &[u8]) -> i32 {
     if check::same(name, b"-") {
-        return run_tape(
-            libc::STDIN_FILENO,
-            b"standard input",
-            before,
-            line,
-            eeprom,
-            id,
-        );
+        return libc::STDIN_FILENO;
     }
     let fd = os::open_read(name);
     if fd < 0 {
         crate::tell(name);
-        return Reading {
-            tape: before,
-            put: 0,
-            more: false,
-            whole: false,
-            open: true,
-        };
     }
-    let ran = run_tape(fd, name, before, line, eeprom, id);
-    libc::close(fd);
-    ran
+    fd
+}
+
+// Closes the tape, unless it is standard input.
+pub fn close(fd: i32) {
+    if fd != libc::STDIN_FILENO {
+        libc::close(fd);
+    }
+}
+
+// Answers a tape that begins without a part.
+fn run_fresh(fd: i32, name: &[u8]) -> bool {
+    let mut eeprom = [0u8; tape::chunk::EEPROM_ROOM];
+    let mut id = [0u8; tape::chunk::ID_SIZE];
+    let ran = run_tape(fd, name, 0, record::fresh_device(), &mut eeprom, &mut id);
+    ran.open
 }
 
 // Answers a tape by its name, which begins without a part. The answer is whether standard output still takes answers.
 pub fn run_new(name: &[u8]) -> bool {
-    let mut line = [0u8; tape::chunk::HEAD_LIMIT];
-    let mut eeprom = [0u8; tape::chunk::EEPROM_ROOM];
-    let mut id = [0u8; tape::chunk::ID_SIZE];
-    let before = tape::chunk::start();
-    let ran = run_named(name, before, &mut line, &mut eeprom, &mut id);
-    ran.open
+    let fd = open(name);
+    if fd < 0 {
+        return true;
+    }
+    let takes = run_fresh(fd, name);
+    close(fd);
+    takes
 }

@@ -17,7 +17,7 @@ use Rattle.base.proofs.Every.{every-at}
 use Rattle.base.proofs.StoreLaws.{replicate-each}
 use Rattle.record.specs.Numbers.{stageOf}
 use Rattle.record.specs.Part.{sizeOf, bootsOf}
-use Rattle.record.specs.Registers.{kept, periodOf, startupTicks, cycleTicks}
+use Rattle.record.specs.Registers.{periodOf, startupTicks, cycleTicks}
 use Rattle.record.specs.Stages.{foreignToWip}
 use Rattle.record.proofs.PartLaws.{size-most}
 use Rattle.form.specs.Lines.{headOf}
@@ -382,12 +382,27 @@ lines-are row l m count h o e =
     ∙ ap (linesBy row) (filled-at (take count m) 0)
     ∙ sym (row-lines (take count m) row h)
 
-pub room-line :
+room-line :
     (n i w at : ℕ) (b : List ℕ) → i < n → at ≡ length b + i * w → length b + n * w ≤ numberLimit → at + w ≤ numberLimit
 room-line n i w at b h e l = fits (i * w) (n * w) (times-more i n w h) e l
   where
     fits : (p q : ℕ) → p + w ≤ q → at ≡ length b + p → length b + q ≤ 395 → at + w ≤ 395
     fits p q t u v = omega (arith, t, u, v)
+
+-- where a row has room, line i of it has
+pub line-fits :
+    (row l : ℕ) (m : List ℕ) (count i at : ℕ) → Holds m count → l ≡ rowAt row .lines (take count m)
+    → count + span (rowAt row) (take count m) ≤ numberLimit → i < l → at ≡ length (take count m) + i * rowAt row .width
+    → at + rowAt row .width ≤ numberLimit
+line-fits row l m count i at o n room h e =
+    let b = take count m in
+    let r = rowAt row in
+    let k = held-long m count o (less (span r b) room) in
+    room-line l i (r .width) at b h e
+    (subst (λ (z : ℕ). length b + z * r .width ≤ 395) (sym n) (subst (λ (z : ℕ). z + span r b ≤ 395) (sym k) room))
+  where
+    less : {x : ℕ} (s : ℕ) → x + s ≤ 395 → x ≤ 395
+    less s p = omega (arith, p)
 
 -- The rows: after i of them at most so many numbers are there.
 mosts : List ℕ

@@ -11,11 +11,11 @@ use borrow.Author.Tests.{eqb-true, ltb-true}
 use lib.Dec.{eqb, ltb}
 use lib.ListN.{length, take, drop, getD, length-drop}
 use lib.Seq.{drop-cons, drop-length, getD-take, getD-drop, length-take-le}
-use Rattle.base.specs.Words.{pick, every}
+use Rattle.base.specs.Words.{every}
 use Rattle.base.proofs.Tests.{by-cases, no, pick-case, pick-when}
 use Rattle.base.proofs.Every.{every-at}
 use Rattle.record.specs.Part.{sizeOf}
-use Rattle.text.specs.Buffer.{Buffer, buffer, append}
+use Rattle.text.specs.Buffer.{Buffer, append}
 use Rattle.text.specs.Decimal.{decimalText}
 use Rattle.text.proofs.BufferLaws.{append-none, put-then, room-then, room-before}
 use Rattle.form.specs.Lines.{followed, numbersText, headOf, lineText}
@@ -68,7 +68,7 @@ unfolding runText numbersText
 run-text [] h = absurd (omega arith)
 run-text (n ∷ x) h = ap (λ (l : List ℕ). decimalText n ++ l) (run-followed x)
 
-pub line-text : (r : Row) (i : ℕ) (x : List ℕ) → 0 < length x → headOf (keyOf r i) ++ runText x ≡ lineText (keyOf r i) x
+line-text : (r : Row) (i : ℕ) (x : List ℕ) → 0 < length x → headOf (keyOf r i) ++ runText x ≡ lineText (keyOf r i) x
 unfolding lineText
 line-text r i x h = ap (λ (l : List ℕ). headOf (keyOf r i) ++ l) (run-text x h)
 
@@ -104,11 +104,21 @@ run-end ns k w j h e =
     left-over : {a b : ℕ} → a ≡ b - k → k + w ≤ b → w ≤ a
     left-over p q = omega (arith, p, q)
 
-pub line-some : (ns : List ℕ) (k w : ℕ) → k + w ≤ length ns → 0 < w → 0 < length (take w (drop k ns))
+line-some : (ns : List ℕ) (k w : ℕ) → k + w ≤ length ns → 0 < w → 0 < length (take w (drop k ns))
 line-some ns k w h g = subst (λ (m : ℕ). 0 < m) (sym (length-take-le w (drop k ns) (left-over (length-drop k ns) h))) g
   where
     left-over : {a b : ℕ} → a ≡ b - k → k + w ≤ b → w ≤ a
     left-over p q = omega (arith, p, q)
+
+-- a line is its head and its numbers, each with the byte after it, and they have the line's room
+module _ (r : Row) (i : ℕ) (ns : List ℕ) (k w : ℕ) (h : k + w ≤ length ns) (g : 0 < w) where
+  pub line-split : headOf (keyOf r i) ++ runText (take w (drop k ns)) ≡ lineText (keyOf r i) (take w (drop k ns))
+  line-split = line-text r i (take w (drop k ns)) (line-some ns k w h g)
+
+  pub split-room :
+      (at n : ℕ) → at + length (lineText (keyOf r i) (take w (drop k ns))) ≤ n
+      → at + length (headOf (keyOf r i) ++ runText (take w (drop k ns))) ≤ n
+  split-room at n = subst (λ (t : List ℕ). at + length t ≤ n) (sym line-split)
 
 -- The lines of a row that are to come after i of n.
 pub row-next :

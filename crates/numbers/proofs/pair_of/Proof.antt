@@ -4,17 +4,9 @@ use borrow.Author.Tests.{ne-eqb}
 use Rattle.numbers.proofs.pair_of.Statement.{statement}
 use Rattle.numbers.proofs.pair_of.Tie as tie
 
-returns : tie.Need-returns
-returns c = simp (c .match .keys1)
-
-returns-2 : tie.Need-returns-2
-returns-2 c = simp (c .match .keys2)
-
-returns-3 : tie.Need-returns-3
-returns-3 c = simp (c .match .keys3)
-
-returns-4 : tie.Need-returns-4
-returns-4 c = simp (ne-eqb _ 0 (c .match .rest .0 .0 .1), ne-eqb _ 1 (c .match .rest .0 .1), ne-eqb _ 2 (c .match .rest .1))
-
 pub pair-of-spec : {M : Type 1} → statement M
-pair-of-spec = tie.close (tie.spec returns returns-2 returns-3 returns-4)
+pair-of-spec =
+    tie.close
+    (tie.spec
+    (λ c. simp (c .match .keys1)) (λ c. simp (c .match .keys2)) (λ c. simp (c .match .keys3))
+    (λ c. simp (ne-eqb _ 0 (c .match .rest .0 .0 .1), ne-eqb _ 1 (c .match .rest .0 .1), ne-eqb _ 2 (c .match .rest .1))))

@@ -5,27 +5,6 @@ use borrow.Author.Tests.{ne-eqb}
 use Rattle.numbers.proofs.stage_of.Statement.{statement}
 use Rattle.numbers.proofs.stage_of.Tie as tie
 
-returns : tie.Need-returns
-returns c = simp (c .match .keys1)
-
-returns-2 : tie.Need-returns-2
-returns-2 c = simp (c .match .keys2)
-
-returns-3 : tie.Need-returns-3
-returns-3 c = simp (c .match .keys3)
-
-returns-4 : tie.Need-returns-4
-returns-4 c = simp (c .code-of .ensures, c .before .match .keys4)
-
-returns-5 : tie.Need-returns-5
-returns-5 c = simp (c .place-of .ensures, c .before .match .keys5)
-
-returns-6 : tie.Need-returns-6
-returns-6 c = simp (c .place-of2 .ensures, c .before .match .keys6)
-
-returns-7 : tie.Need-returns-7
-returns-7 c = simp (c .pair-of .ensures, c .before .match .keys7)
-
 returns-8 : tie.Need-returns-8
 returns-8 c =
     simp
@@ -35,5 +14,7 @@ pub stage-of-spec : {M : Type 1} → statement M
 stage-of-spec =
     tie.close
     (tie.spec
-    (λ c κs. search needs) (λ c κs. search needs) (λ c κs. search needs) (λ c κs. search needs) (λ c κs. search needs) returns returns-2 returns-3
-    returns-4 returns-5 returns-6 returns-7 returns-8)
+    (λ c κs. search needs) (λ c κs. search needs) (λ c κs. search needs) (λ c κs. search needs) (λ c κs. search needs) (λ c. simp (c .match .keys1))
+    (λ c. simp (c .match .keys2)) (λ c. simp (c .match .keys3)) (λ c. simp (c .code-of .ensures, c .before .match .keys4))
+    (λ c. simp (c .place-of .ensures, c .before .match .keys5)) (λ c. simp (c .place-of2 .ensures, c .before .match .keys6))
+    (λ c. simp (c .pair-of .ensures, c .before .match .keys7)) returns-8)

@@ -5,14 +5,9 @@ use borrow.Author.Tests.{ne-eqb}
 use Rattle.numbers.proofs.target_of.Statement.{statement}
 use Rattle.numbers.proofs.target_of.Tie as tie
 
-returns : tie.Need-returns
-returns c = simp (c .match .keys1)
-
-returns-2 : tie.Need-returns-2
-returns-2 c = simp (c .match .keys2)
-
-returns-3 : tie.Need-returns-3
-returns-3 c = simp (c .protection-of .ensures, ne-eqb _ 0 (c .before .match .rest .0 .1), ne-eqb _ 1 (c .before .match .rest .1))
-
 pub target-of-spec : {M : Type 1} → statement M
-target-of-spec = tie.close (tie.spec (λ c κs. search needs) returns returns-2 returns-3)
+target-of-spec =
+    tie.close
+    (tie.spec
+    (λ c κs. search needs) (λ c. simp (c .match .keys1)) (λ c. simp (c .match .keys2))
+    (λ c. simp (c .protection-of .ensures, ne-eqb _ 0 (c .before .match .rest .0 .1), ne-eqb _ 1 (c .before .match .rest .1))))

@@ -22,12 +22,6 @@ loop-holds c = (omega arith, refl, refl)
 mul-into : tie.Need-mul-into Inv-loop μ-loop
 mul-into c = record { fits = omega arith }
 
-shared-slice-read-into : tie.Need-shared-slice-read-into Inv-loop μ-loop
-shared-slice-read-into c = omega arith
-
-add-into : tie.Need-add-into Inv-loop μ-loop
-add-into c = omega arith
-
 mul-into-2 : tie.Need-mul-into-2 Inv-loop μ-loop
 mul-into-2 c = record { fits = omega arith }
 
@@ -36,20 +30,11 @@ slice-write-into c =
     let l = c .before .before .loop in
     omega (arith, l .inv .1, c .before .before .before .pre)
 
-add-i : tie.Need-add-i Inv-loop μ-loop
-add-i c = omega arith
-
-loop-less : tie.Need-loop-less Inv-loop μ-loop
-loop-less c = omega arith
-
 loop-again : tie.Need-loop-again Inv-loop μ-loop
 loop-again c =
     let l = c .before .before .loop in
     let a = c .before .before .before .args in
     (omega arith, simp length-set (l .inv .1), ap (λ (o : List ℕ). set o (a .at + l .i) (getD (a .from .now) (l .i) 0)) (l .inv .2) ∙ sets-more (a .into .now) (a .at) (a .from .now) (l .i) (c .before .loop-test .taken))
-
-add-result : tie.Need-add-result Inv-loop μ-loop
-add-result c = omega arith
 
 same-length : tie.Need-same-length Inv-loop μ-loop
 same-length c = c .before .loop .inv .1
@@ -64,5 +49,5 @@ pub put-numbers-spec : {M : Type 1} → statement M
 put-numbers-spec =
     tie.close
     (tie.spec
-    Inv-loop μ-loop loop-holds mul-into shared-slice-read-into add-into mul-into-2 slice-write-into add-i loop-less loop-again add-result same-length
-    returns)
+    Inv-loop μ-loop loop-holds mul-into (λ c. omega arith) (λ c. omega arith) mul-into-2 slice-write-into (λ c. omega arith) (λ c. omega arith)
+    loop-again (λ c. omega arith) same-length returns)

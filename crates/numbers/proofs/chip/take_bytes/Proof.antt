@@ -33,12 +33,6 @@ cast-into c =
     let l = c .before .before .loop in
     record { fits = (c .before .before .before .pre) .1 (l .i) (omega (arith, l .inv .1)) }
 
-slice-write-into : tie.Need-slice-write-into Inv-loop μ-loop
-slice-write-into c = omega arith
-
-add-i : tie.Need-add-i Inv-loop μ-loop
-add-i c = omega arith
-
 loop-less : tie.Need-loop-less Inv-loop μ-loop
 loop-less c =
     let l = c .before .before .loop in
@@ -63,4 +57,5 @@ pub take-bytes-spec : {M : Type 1} → statement M
 take-bytes-spec =
     tie.close
     (tie.spec
-    Inv-loop μ-loop loop-holds add-into mul-into shared-slice-read-into cast-into slice-write-into add-i loop-less loop-again same-length returns)
+    Inv-loop μ-loop loop-holds add-into mul-into shared-slice-read-into cast-into (λ c. omega arith) (λ c. omega arith) loop-less loop-again
+    same-length returns)

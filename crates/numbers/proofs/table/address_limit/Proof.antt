@@ -4,14 +4,9 @@ use borrow.Author.Tests.{eq-eqb, ne-eqb}
 use Rattle.numbers.proofs.table.address_limit.Statement.{statement}
 use Rattle.numbers.proofs.table.address_limit.Tie as tie
 
-returns : tie.Need-returns
-returns c = simp (eq-eqb _ _ (c .if1 .taken))
-
-returns-2 : tie.Need-returns-2
-returns-2 c = simp (ne-eqb _ 0 (c .before .if1 .left), eq-eqb _ _ (c .if2 .taken))
-
-returns-3 : tie.Need-returns-3
-returns-3 c = simp (ne-eqb _ 0 (c .before .if1 .left), ne-eqb _ 1 (c .if2 .left))
-
 pub address-limit-spec : {M : Type 1} → statement M
-address-limit-spec = tie.close (tie.spec returns returns-2 returns-3)
+address-limit-spec =
+    tie.close
+    (tie.spec
+    (λ c. simp (eq-eqb _ _ (c .if1 .taken))) (λ c. simp (ne-eqb _ 0 (c .before .if1 .left), eq-eqb _ _ (c .if2 .taken)))
+    (λ c. simp (ne-eqb _ 0 (c .before .if1 .left), ne-eqb _ 1 (c .if2 .left))))

@@ -5,11 +5,9 @@ use borrow.Author.Tests.{eq-eqb, ne-eqb}
 use Rattle.numbers.proofs.table.lines.Statement.{statement}
 use Rattle.numbers.proofs.table.lines.Tie as tie
 
-returns : tie.Need-returns
-returns c = simp (eq-eqb _ 19 (c .before .if1 .taken), c .size .ensures)
-
-returns-2 : tie.Need-returns-2
-returns-2 c = simp (ne-eqb _ 19 (c .if1 .left))
-
 pub lines-spec : {M : Type 1} → statement M
-lines-spec = tie.close (tie.spec (λ c κs. search needs) (λ c. search needs) returns (λ c. search needs) (λ c. search needs) returns-2)
+lines-spec =
+    tie.close
+    (tie.spec
+    (λ c κs. search needs) (λ c. search needs) (λ c. simp (eq-eqb _ 19 (c .before .if1 .taken), c .size .ensures)) (λ c. search needs)
+    (λ c. search needs) (λ c. simp (ne-eqb _ 19 (c .if1 .left))))

@@ -6,11 +6,9 @@ use borrow.Author.Tests.{lt-ltb, le-ltb}
 use Rattle.numbers.proofs.table.register_good.Statement.{statement}
 use Rattle.numbers.proofs.table.register_good.Tie as tie
 
-returns : tie.Need-returns
-returns c = simp (le-ltb (c .before .args .n) 256 (omega arith))
-
-returns-2 : tie.Need-returns-2
-returns-2 c = simp (c .kept-bits .ensures, lt-ltb (c .before .before .args .n) 256 (omega arith))
-
 pub register-good-spec : {M : Type 1} → statement M
-register-good-spec = tie.close (tie.spec returns (λ c. search needs) (λ c. search needs) (λ c κs. search needs) returns-2)
+register-good-spec =
+    tie.close
+    (tie.spec
+    (λ c. simp (le-ltb (c .before .args .n) 256 (omega arith))) (λ c. search needs) (λ c. search needs) (λ c κs. search needs)
+    (λ c. simp (c .kept-bits .ensures, lt-ltb (c .before .before .args .n) 256 (omega arith))))

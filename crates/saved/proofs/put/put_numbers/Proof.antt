@@ -80,12 +80,6 @@ put-byte-requires c κs =
     room-then b d m (c .before .before .before .before .put-decimal .ensures)
     (part-room o (runText y) (runText (drop (l .j) y)) (d ++ m) rest b (l .inv .2) n (h .1))
 
-add-j : tie.Need-add-j Inv-loop μ-loop
-add-j c = omega arith
-
-loop-less : tie.Need-loop-less Inv-loop μ-loop
-loop-less c = omega arith
-
 loop-again : tie.Need-loop-again Inv-loop μ-loop
 loop-again c =
     let a = c .before .before .before .before .before .before .before .before .before .before .before .before .before .before .args in
@@ -124,4 +118,4 @@ put-numbers-spec =
     tie.close
     (tie.spec
     Inv-loop μ-loop loop-holds add-put-decimal mul-put-decimal shared-slice-read-put-decimal put-decimal-requires mark-after-requires
-    put-byte-requires add-j loop-less loop-again same-length returns)
+    put-byte-requires (λ c. omega arith) (λ c. omega arith) loop-again same-length returns)

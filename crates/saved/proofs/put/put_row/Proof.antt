@@ -71,12 +71,6 @@ add-place c =
     (h .1 .1 .0) in
     record { fits = omega (arith, z) }
 
-add-i : tie.Need-add-i Inv-loop μ-loop
-add-i c = omega arith
-
-loop-less : tie.Need-loop-less Inv-loop μ-loop
-loop-less c = omega arith
-
 loop-again : tie.Need-loop-again Inv-loop μ-loop
 loop-again c =
     let a = c .before .before .before .before .before .before .before .before .before .args in
@@ -111,4 +105,4 @@ pub put-row-spec : {M : Type 1} → statement M
 put-row-spec =
     tie.close
     (tie.spec
-    Inv-loop μ-loop width-requires loop-holds put-line-requires add-place add-i loop-less loop-again same-length returns)
+    Inv-loop μ-loop width-requires loop-holds put-line-requires add-place (λ c. omega arith) (λ c. omega arith) loop-again same-length returns)

@@ -6,7 +6,7 @@ use mathlib.Core.List.{[], _∷_}
 use borrow.Author.Needs.{needs}
 use Rattle.saved.specs.Reading.{pastWord}
 use Prim.Native.Nat.{ℕ, _+_, _-_, _≤_}
-use lib.ListN.{length, take, set, length-set}
+use lib.ListN.{length, take, length-set}
 use Rattle.numbers.specs.Tables.{rowAt}
 use Rattle.saved.specs.Place.{readingAt}
 use Rattle.saved.proofs.LoopLaws.{Went, went-more, went-all, line-went, held-long, good-alike}
@@ -62,12 +62,6 @@ mark-after-requires c κs = c .before .before .before .before .loop-test .taken
 past-byte-requires : tie.Need-past-byte-requires Inv-loop μ-loop
 past-byte-requires c κs = search needs
 
-add-j : tie.Need-add-j Inv-loop μ-loop
-add-j c = omega arith
-
-loop-less : tie.Need-loop-less Inv-loop μ-loop
-loop-less c = omega arith
-
 loop-again : tie.Need-loop-again Inv-loop μ-loop
 loop-again c =
     let l = c .before .before .before .before .before .before .before .loop in
@@ -97,4 +91,4 @@ read-numbers-spec =
     tie.close
     (tie.spec
     Inv-loop μ-loop loop-holds number-at-requires add-good good-requires add-numbers mul-numbers slice-write-numbers mark-after-requires
-    past-byte-requires add-j loop-less loop-again same-length returns)
+    past-byte-requires (λ c. omega arith) (λ c. omega arith) loop-again same-length returns)

@@ -5,7 +5,7 @@ use mathlib.Core.Path.{sym, ap, _∙_}
 use mathlib.Core.List.{[]}
 use Prim.Native.Nat.{_-_, _≤_}
 use lib.ListN.{length}
-use Rattle.saved.specs.Place.{readingAt, filled}
+use Rattle.saved.specs.Place.{readingAt}
 use Rattle.saved.proofs.LoopLaws.{Texts, texts-none, texts-more, texts-room, texts-all, filled-long}
 use Rattle.saved.proofs.read.read_rows.Statement.{statement}
 use Rattle.saved.proofs.read.read_rows.Tie as tie
@@ -30,12 +30,6 @@ read-row-requires c κs =
     let t = l .inv .1 in
     (c .before .loop-test .taken, (texts-room x (l .row) (l .count) (l .numbers) (readingAt x (l .place)) (c .before .loop-test .taken) t, (t .fewer, t .list)))
 
-add-row : tie.Need-add-row Inv-loop μ-loop
-add-row c = omega arith
-
-loop-less : tie.Need-loop-less Inv-loop μ-loop
-loop-less c = omega arith
-
 loop-again : tie.Need-loop-again Inv-loop μ-loop
 loop-again c =
     let a = c .before .before .before .before .before .before .before .before .before .args in
@@ -57,4 +51,7 @@ returns c =
     texts-all x (l .row) (l .count) (l .numbers) (readingAt x (l .place)) (omega (arith, l .inv .0)) (l .inv .1)
 
 pub read-rows-spec : {M : Type 1} → statement M
-read-rows-spec = tie.close (tie.spec Inv-loop μ-loop loop-holds read-row-requires add-row loop-less loop-again same-length returns)
+read-rows-spec =
+    tie.close
+    (tie.spec
+    Inv-loop μ-loop loop-holds read-row-requires (λ c. omega arith) (λ c. omega arith) loop-again same-length returns)
