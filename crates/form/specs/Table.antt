@@ -98,6 +98,10 @@ leftBy power foreign = pick (power && not foreign) (suc cycleTicks) 1
 abbrev pub leftLimit : List ℕ → ℕ
 leftLimit b = leftBy (powerIn b) (foreignToWip (stageIn b))
 
+-- S3. a register's byte: no bit outside its mask
+abbrev pub registerGood : ℕ → ℕ → Bool
+registerGood j n = ltb n 256 && eqb (bitAnd n (getD kept j 0)) n
+
 -- rows whose numbers have a limit
 abbrev pub row : String → (List ℕ → ℕ) → Row
 row key limit = record { key = key; numbered = false; lines = λ b. 1; width = 1; good = λ b j n. ltb n (limit b) }
@@ -120,10 +124,8 @@ targetGood b (suc j) n = ltb n (targetLimit (sizeOf (partIn b)) (getD b 120 0))
 unfoldable pub partRow : Row
 partRow = record { key = "part"; numbered = false; lines = λ b. 1; width = 1; good = λ b j n. isPart n }
 
--- S3. a register's byte has no bit outside its mask
 unfoldable pub registerRow : Row
-registerRow =
-    record { key = "reg"; numbered = true; lines = λ b. 32; width = 1; good = λ b j n. ltb n 256 && eqb (bitAnd n (getD kept j 0)) n }
+registerRow = record { key = "reg"; numbered = true; lines = λ b. 32; width = 1; good = λ b. registerGood }
 
 unfoldable pub sramRow : Row
 sramRow = memoryRow "sram" (λ b. 8)

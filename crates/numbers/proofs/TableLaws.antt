@@ -4,26 +4,44 @@ use mathlib.Core.Path.{_≡_, refl, sym, ap, subst, _∙_}
 use mathlib.Core.Logic.{_≢_}
 use mathlib.Core.Bool.{Bool, true, false, not, _&&_, _||_}
 use mathlib.Core.List.{List, [], _∷_}
-use Prim.Native.Nat.{ℕ, zero, suc, _%_, _<_, _≤_}
+use Prim.Native.Nat.{ℕ, zero, suc, _/_, _%_, _<_, _≤_}
 use native.Mathlib.Omega.{arith}
-use borrow.Author.Tests.{eq-eqb, ne-eqb, eqb-true, eqb-false, lt-ltb, le-ltb}
+use borrow.Author.Tests.{eq-eqb, ne-eqb, eqb-true, ltb-true, ltb-false, lt-ltb, le-ltb}
 use lib.Dec.{ltb, eqb}
-use lib.Bits.{bitAnd}
 use lib.ListN.{getD, List·getD-eq-default}
 use Rattle.base.specs.Words.{pick, bit, every}
-use Rattle.base.proofs.Tests.{by-cases, pick-case, yes, no}
+use Rattle.base.proofs.Tests.{by-cases, yes, no}
 use Rattle.base.proofs.Every.{every-at, same-below}
-use Rattle.record.specs.Codes.{codeOf, codeNumber, heardUnderWip}
-use Rattle.record.specs.declared.Code.the-variants.{Srread, Read, Write, Clrwdt, Clrram}
-use Rattle.record.specs.declared.Long.{Long}
-use Rattle.record.specs.declared.Pair.{Pair}
-use Rattle.record.specs.Numbers.{placeOf, pairOf, longOf, stageOf}
+use Rattle.record.specs.Codes.{codeOf, codeNumber}
+use Rattle.record.specs.declared.ClockAddress.{ClockAddress}
+use Rattle.record.specs.declared.EepromAddress.{EepromAddress}
+use Rattle.record.specs.declared.IdAddress.{IdAddress}
+use Rattle.record.specs.declared.Place.{Place}
+use Rattle.record.specs.declared.Place.the-variants.{EepromAt, ClockAt, IdAt}
+use Rattle.record.specs.declared.Stage.{Stage}
+use Rattle.record.specs.declared.Stage.the-variants.{Reading, Writing, Second}
+use Rattle.record.specs.Numbers.{placeOf, pairOf, stageOf}
 use Rattle.record.specs.Part.{isPart, sizeOf, bootsOf}
-use Rattle.record.specs.Registers.{secondsAt, watchdogAt, kept, periods, periodOf}
-use Rattle.record.specs.Stages.{readingCode, writingCode, secondCode, overCode, foreignToWip}
-use Rattle.record.proofs.CodeLaws.{code-test}
-use Rattle.form.specs.Table.{rows, partIn, registerIn, powerIn, startupLimit, markLimit, kindLimit, caseLimit, caseGood, valueLimit, targetLimit, leftLimit, stageGood, targetGood, partRow, registerRow, sramRow, dividerRow, startupRow, watchdogRow, delayRow, pulseRow, powerRow, markRow, welRow, protectionRow, lockRow, stageRow, offsetsRow, loadRow, nextRow, targetRow, leftRow, eepromRow, idRow}
-use Rattle.numbers.specs.Tables.{rowAt, rowCount, widths, lineCounts, linesBy, limits, foreignBy}
+use Rattle.record.specs.Registers.{secondsAt, watchdogAt, periods, periodOf}
+use Rattle.record.specs.Stages.{foreignToWip}
+use Rattle.form.specs.Table.{rows, registerGood, partIn, registerIn, powerIn, startupLimit, markLimit, kindLimit, caseLimit, caseGood, valueLimit, targetLimit, leftLimit, stageGood, targetGood, partRow, registerRow, sramRow, dividerRow, startupRow, watchdogRow, delayRow, pulseRow, powerRow, markRow, welRow, protectionRow, lockRow, stageRow, offsetsRow, loadRow, nextRow, targetRow, leftRow, eepromRow, idRow}
+use Rattle.numbers.specs.Tables.{rowAt, rowCount}
+
+-- What is constant of each row, as code has it. Numbers on a line;
+abbrev pub widths : List ℕ
+widths = 1 ∷ 1 ∷ 8 ∷ 1 ∷ 1 ∷ 1 ∷ 1 ∷ 1 ∷ 1 ∷ 1 ∷ 1 ∷ 1 ∷ 1 ∷ 3 ∷ 1 ∷ 8 ∷ 1 ∷ 2 ∷ 1 ∷ 8 ∷ 8 ∷ []
+
+-- lines of a row, those of the EEPROM by the part;
+abbrev pub lineCounts : List ℕ
+lineCounts = 1 ∷ 32 ∷ 8 ∷ 1 ∷ 1 ∷ 1 ∷ 1 ∷ 1 ∷ 1 ∷ 1 ∷ 1 ∷ 1 ∷ 1 ∷ 1 ∷ 1 ∷ 1 ∷ 1 ∷ 1 ∷ 1 ∷ 0 ∷ 2 ∷ []
+
+abbrev pub linesBy : ℕ → ℕ → ℕ
+linesBy i part = pick (eqb i 19) (sizeOf part / 8) (getD lineCounts i 0)
+
+-- what a number is less than, where that is one number; 0 where it depends on others.
+abbrev pub limits : List ℕ
+limits =
+    0 ∷ 0 ∷ 256 ∷ 32768 ∷ 0 ∷ 0 ∷ 2097153 ∷ 4097 ∷ 2 ∷ 0 ∷ 2 ∷ 4 ∷ 3 ∷ 0 ∷ 256 ∷ 256 ∷ 8 ∷ 0 ∷ 0 ∷ 256 ∷ 256 ∷ []
 
 pub row-width : (i : ℕ) → i < rowCount → getD widths i 0 ≡ rowAt i .width
 unfolding every rowAt rows partRow registerRow sramRow dividerRow startupRow watchdogRow delayRow pulseRow powerRow markRow welRow protectionRow lockRow stageRow offsetsRow loadRow nextRow targetRow leftRow eepromRow idRow
@@ -66,55 +84,46 @@ row-limit (suc (suc (suc (suc (suc (suc (suc (suc (suc (suc (suc (suc (suc (suc 
 row-limit (suc (suc (suc (suc (suc (suc (suc (suc (suc (suc (suc (suc (suc (suc (suc (suc (suc (suc (suc (suc zero)))))))))))))))))))) h e0 e1 e4 e5 e9 e13 e17 e18 b j n = refl
 row-limit (suc (suc (suc (suc (suc (suc (suc (suc (suc (suc (suc (suc (suc (suc (suc (suc (suc (suc (suc (suc (suc i))))))))))))))))))))) h e0 e1 e4 e5 e9 e13 e17 e18 b j n = absurd (omega arith)
 
--- a stage's frame by kind and case
-reading-foreign : (c v : ℕ) → not (eqb c 1) ≡ not (heardUnderWip (readingCode (placeOf c v)))
-reading-foreign c v =
-    by-cases (eqb c 0) (λ t. rw (eqb-true c 0 t)) (λ t. by-cases (eqb c 1) (λ u. rw (eqb-true c 1 u)) (λ u. rw (t, u)))
+-- Kind and case of a stage as bytes: one that is no byte is no number of theirs, and neither is 255.
+off : (n : ℕ) → ltb n 256 ≡ false → (i : ℕ) → ltb i 256 ≡ true → eqb n i ≡ false
+off n t i h = ne-eqb n i (λ e. absurd (omega (arith, ltb-false n 256 t, ltb-true i 256 h, e)))
 
-writing-foreign : (c v : ℕ) → not (eqb c 1) ≡ not (heardUnderWip (writingCode (placeOf c v)))
-writing-foreign c v =
-    by-cases (eqb c 0) (λ t. rw (eqb-true c 0 t)) (λ t. by-cases (eqb c 1) (λ u. rw (eqb-true c 1 u)) (λ u. rw (t, u)))
+kind-byte : (k c v : ℕ) → stageOf (pick (ltb k 256) k 255) c v ≡ stageOf k c v
+kind-byte k c v =
+    by-cases (ltb k 256) (λ t. rw t) (λ t. rw (t, off k t 0 refl, off k t 1 refl, off k t 2 refl, off k t 3 refl, off k t 4 refl, off k t 5 refl, off k t 6 refl))
 
-second-foreign : (c v : ℕ) → ltb c 2 ≡ not (heardUnderWip (secondCode (pairOf c v)))
-second-foreign c v =
-    by-cases (eqb c 0) (λ t. rw (eqb-true c 0 t))
+case-byte-of : (k c v : ℕ) → stageOf k (pick (ltb c 256) c 255) v ≡ stageOf k c v
+case-byte-of k c v =
+    by-cases (ltb c 256) (λ t. rw t)
     (λ t.
-    by-cases (eqb c 1) (λ u. rw (eqb-true c 1 u))
-    (λ u. rw (t, u, le-ltb c 2 (above c t u)) (pick-case (λ (q : Pair). false ≡ not (heardUnderWip (secondCode q))) (eqb c 2) refl refl)))
-  where
-    above : (n : ℕ) → eqb n 0 ≡ false → eqb n 1 ≡ false → 2 ≤ n
-    above n e f = omega (arith, eqb-false n 0 e, eqb-false n 1 f)
+    let f = off c t in
+    rw (t, f 0 refl, f 1 refl, f 2 refl, f 3 refl, f 4 refl, f 5 refl, f 6 refl, f 0x12 refl, f 0x13 refl, f 0x14 refl, f 0x32 refl, f 0x33 refl, f 0x44 refl, f 0x54 refl))
 
-over-foreign : (c : ℕ) → not (eqb c 2 || eqb c 3) ≡ not (heardUnderWip (overCode (longOf c)))
-over-foreign c =
-    by-cases (eqb c 2) (λ t. rw (eqb-true c 2 t))
-    (λ t.
-    by-cases (eqb c 3) (λ u. rw (eqb-true c 3 u))
-    (λ u.
-    rw (t, u)
-    (pick-case (λ (l : Long). true ≡ not (heardUnderWip (overCode l))) (eqb c 0) refl
-    (pick-case (λ (l : Long). true ≡ not (heardUnderWip (overCode l))) (eqb c 1) refl
-    (pick-case (λ (l : Long). true ≡ not (heardUnderWip (overCode l))) (eqb c 4) refl refl)))))
+-- a frame is foreign by kind and case alone, whatever value they have
+module _ (c v : ℕ) where
+  same-memory :
+      (P : Place → Place → Type 0) → ((a b : EepromAddress) → P (EepromAt a) (EepromAt b)) → ((a b : ClockAddress) → P (ClockAt a) (ClockAt b))
+      → ((a b : IdAddress) → P (IdAt a) (IdAt b)) → P (placeOf c 0) (placeOf c v)
+  same-memory P e f g =
+      by-cases (eqb c 0) (λ t. rw t (e _ _)) (λ t. by-cases (eqb c 1) (λ u. rw (t, u) (f _ _)) (λ u. rw (t, u) (g _ _)))
 
-pub foreign-is : (k c v : ℕ) → foreignBy k c ≡ foreignToWip (stageOf k c v)
-foreign-is k c v =
-    by-cases (eqb k 0) (λ t. rw (eqb-true k 0 t))
-    (λ t0.
-    by-cases (eqb k 1) (λ t. rw (eqb-true k 1 t))
-    (λ t1.
-    by-cases (eqb k 2) (λ t. rw (eqb-true k 2 t))
-    (λ t2.
-    by-cases (eqb k 3) (λ t. rw (eqb-true k 3 t))
-    (λ t3.
-    by-cases (eqb k 4) (λ t. rw (eqb-true k 4 t) (reading-foreign c v))
-    (λ t4.
-    by-cases (eqb k 5) (λ t. rw (eqb-true k 5 t) (writing-foreign c v))
-    (λ t5.
-    by-cases (eqb k 6) (λ t. rw (eqb-true k 6 t) (second-foreign c v))
-    (λ t6. rw (le-ltb k 3 (above k t0 t1 t2), t0, t1, t2, t3, t4, t5, t6) (over-foreign c))))))))
-  where
-    above : (n : ℕ) → eqb n 0 ≡ false → eqb n 1 ≡ false → eqb n 2 ≡ false → 3 ≤ n
-    above n e f g = omega (arith, eqb-false n 0 e, eqb-false n 1 f, eqb-false n 2 g)
+  same-pair : foreignToWip (Second (pairOf c 0)) ≡ foreignToWip (Second (pairOf c v))
+  same-pair = by-cases (eqb c 0) (λ t. rw t) (λ t. by-cases (eqb c 1) (λ u. rw (t, u)) (λ u. rw (t, u)))
+
+  value-free : (k : ℕ) → foreignToWip (stageOf k c 0) ≡ foreignToWip (stageOf k c v)
+  value-free k =
+      by-cases (eqb k 4)
+      (λ t. rw (eqb-true k 4 t) (same-memory (λ p q. foreignToWip (Reading p) ≡ foreignToWip (Reading q)) (λ a b. refl) (λ a b. refl) (λ a b. refl)))
+      (λ t4.
+      by-cases (eqb k 5)
+      (λ t. rw (eqb-true k 5 t) (same-memory (λ p q. foreignToWip (Writing p) ≡ foreignToWip (Writing q)) (λ a b. refl) (λ a b. refl) (λ a b. refl)))
+      (λ t5. by-cases (eqb k 6) (λ t. rw (eqb-true k 6 t) same-pair) (λ t6. rw (t4, t5, t6))))
+
+-- from kind and case as bytes
+pub foreign-by :
+    (k c : ℕ) {a b : ℕ} {s : Stage} {t : Bool} → a ≡ pick (ltb k 256) k 255 → b ≡ pick (ltb c 256) c 255 → s ≡ stageOf a b 0 → t ≡ foreignToWip s
+    → t ≡ foreignToWip (stageOf k c 0)
+foreign-by k c e f g h = h ∙ ap foreignToWip (g ∙ (λ i. stageOf (e i) (f i) 0) ∙ kind-byte k (pick (ltb c 256) c 255) 0 ∙ case-byte-of k c 0)
 
 -- of 0Ah only the lowest bits set the period
 pub period-rest : (v : ℕ) → periodOf (v % 8) ≡ periodOf v
@@ -130,11 +139,6 @@ pub case-limit-at : (k : ℕ) → k < 8 → getD (1 ∷ 1 ∷ 1 ∷ 256 ∷ 3 �
 unfolding every
 case-limit-at k h = same-below (λ (j : ℕ). getD (1 ∷ 1 ∷ 1 ∷ 256 ∷ 3 ∷ 3 ∷ 4 ∷ 6 ∷ []) j 0) caseLimit 8 refl k h
 
--- an instruction byte that is heard while a cycle runs
-pub heard-codes : (b : ℕ) → (eqb b 0x05 || eqb b 0x13 || eqb b 0x12 || eqb b 0x44 || eqb b 0x54) ≡ heardUnderWip (codeOf b)
-heard-codes b i =
-    code-test Srread refl b i || code-test Read refl b i || code-test Write refl b i || code-test Clrwdt refl b i || code-test Clrram refl b i
-
 -- Limits by their tests, as code has them.
 pub startup-open : (b : List ℕ) (t : Bool) → t ≡ bootsOf (partIn b) → (t || bit (registerIn b secondsAt) 7) ≡ true → 33 ≡ startupLimit b
 startup-open b t e h = yes 33 1 (ap (λ (u : Bool). u || bit (registerIn b secondsAt) 7) (sym e) ∙ h)
@@ -143,14 +147,14 @@ pub startup-shut : (b : List ℕ) (t : Bool) → t ≡ bootsOf (partIn b) → (t
 startup-shut b t e h = no 33 1 (ap (λ (u : Bool). u || bit (registerIn b secondsAt) 7) (sym e) ∙ h)
 
 pub left-open :
-    (b : List ℕ) (t : Bool) → t ≡ foreignBy (getD b 107 0) (getD b 108 0) → (powerIn b && not t) ≡ true → 165 ≡ leftLimit b
+    (b : List ℕ) (t : Bool) → t ≡ foreignToWip (stageOf (getD b 107 0) (getD b 108 0) 0) → (powerIn b && not t) ≡ true → 165 ≡ leftLimit b
 left-open b t e h =
-    yes 165 1 (ap (λ (u : Bool). powerIn b && not u) (sym (e ∙ foreign-is (getD b 107 0) (getD b 108 0) (getD b 109 0))) ∙ h)
+    yes 165 1 (ap (λ (u : Bool). powerIn b && not u) (sym (e ∙ value-free (getD b 108 0) (getD b 109 0) (getD b 107 0))) ∙ h)
 
 pub left-shut :
-    (b : List ℕ) (t : Bool) → t ≡ foreignBy (getD b 107 0) (getD b 108 0) → (powerIn b && not t) ≡ false → 1 ≡ leftLimit b
+    (b : List ℕ) (t : Bool) → t ≡ foreignToWip (stageOf (getD b 107 0) (getD b 108 0) 0) → (powerIn b && not t) ≡ false → 1 ≡ leftLimit b
 left-shut b t e h =
-    no 165 1 (ap (λ (u : Bool). powerIn b && not u) (sym (e ∙ foreign-is (getD b 107 0) (getD b 108 0) (getD b 109 0))) ∙ h)
+    no 165 1 (ap (λ (u : Bool). powerIn b && not u) (sym (e ∙ value-free (getD b 108 0) (getD b 109 0) (getD b 107 0))) ∙ h)
 
 -- the places of stage and target
 pub stage-kind-at : (b : List ℕ) (j n l : ℕ) → j ≡ 0 → l ≡ kindLimit b → ltb n l ≡ stageGood b j n
@@ -193,7 +197,7 @@ module _ (i : ℕ) (b : List ℕ) (j n : ℕ) where
   unfolding rowAt rows partRow
   part-good e = ap (λ (k : ℕ). rowAt k .good b j n) (sym e)
 
-  pub register-good : i ≡ 1 → (ltb n 256 && eqb (bitAnd n (getD kept j 0)) n) ≡ rowAt i .good b j n
+  pub register-good : i ≡ 1 → registerGood j n ≡ rowAt i .good b j n
   unfolding rowAt rows registerRow
   register-good e = ap (λ (k : ℕ). rowAt k .good b j n) (sym e)
 

@@ -2,17 +2,18 @@
 use record::ClockAddress;
 use record::part;
 use record::registers;
+use record::stages;
 ghost use mathlib.Core.Path.{_≡_};
-ghost use Prim.Native.Nat.{_/_, _<_};
-ghost use mathlib.Core.Bool.{_&&_};
+ghost use Prim.Native.Nat.{_<_};
+ghost use mathlib.Core.List.{[], _∷_};
 ghost use lib.Dec.{ltb, eqb};
-ghost use lib.Bits.{bitAnd};
-ghost use lib.ListN.{length, getD};
+ghost use lib.ListN.{length};
 ghost use Rattle.base.specs.Words.{pick};
-ghost use Rattle.record.specs.Registers.{kept, periodOf};
-ghost use Rattle.record.specs.Codes.{codeOf, codeNumber, heardUnderWip};
-ghost use Rattle.form.specs.Table.{startupLimit, caseLimit, caseGood, addressLimit, valueLimit, targetLimit, leftLimit, stageGood, targetGood};
-ghost use Rattle.numbers.specs.Tables.{rowAt, rowCount, numberLimit, linesBy, foreignBy};
+ghost use Rattle.record.specs.Registers.{periodOf};
+ghost use Rattle.record.specs.Numbers.{stageOf};
+ghost use Rattle.record.specs.Stages.{foreignToWip};
+ghost use Rattle.form.specs.Table.{registerGood, startupLimit, markBy, kindBy, caseLimit, caseGood, addressLimit, valueLimit, targetLimit, leftLimit, stageGood, targetGood};
+ghost use Rattle.numbers.specs.Tables.{rowAt, rowCount, numberLimit};
 
 // How many rows the table has, and how many numbers a part of 2 Kbit.
 pub const ROWS: usize = 21;
@@ -109,7 +110,7 @@ pub fn width(row: usize) -> usize
 // How many lines a row has, by the part.
 pub fn lines(row: usize, part: u64) -> usize
     requires { ⌜ row < rowCount ⌝ }
-    ensures { λ r. ⌜ r ≡ linesBy row part ⌝ }
+    ensures { λ r. ⌜ r ≡ rowAt row .lines (part ∷ []) ⌝ }
 {
     if row == EEPROM {
         return (part::size(part) / 8) as usize;
@@ -121,7 +122,7 @@ pub fn lines(row: usize, part: u64) -> usize
 // A register's byte: no bit outside its mask.
 fn register_good(j: usize, n: u64) -> bool
     requires { ⌜ j < 32 ⌝ }
-    ensures { λ r. ⌜ r ≡ (ltb n 256 && eqb (bitAnd n (getD kept j 0)) n) ⌝ }
+    ensures { λ r. ⌜ r ≡ registerGood j n ⌝ }
 {
     if 255 < n {
         return false;
@@ -140,13 +141,13 @@ fn startup_limit(numbers: &[u64]) -> u64
 
 // By the number of power.
 fn mark_limit(power: u64) -> u64
-    ensures { λ r. ⌜ r ≡ pick (eqb power 1) 1 2 ⌝ }
+    ensures { λ r. ⌜ r ≡ markBy (eqb power 1) ⌝ }
 {
     if power == 1 { 1 } else { 2 }
 }
 
 fn kind_limit(power: u64) -> u64
-    ensures { λ r. ⌜ r ≡ pick (eqb power 1) 8 1 ⌝ }
+    ensures { λ r. ⌜ r ≡ kindBy (eqb power 1) ⌝ }
 {
     if power == 1 { 8 } else { 1 }
 }
@@ -157,30 +158,22 @@ fn period(v: u64) -> u64
     registers::period((v % 8) as u8) as u64
 }
 
-// An instruction byte that is heard while a cycle runs.
-fn heard(which: u64) -> bool
-    ensures { λ r. ⌜ r ≡ heardUnderWip (codeOf which) ⌝ }
+// A number as a byte; FFh, which is the number of no kind and no case, for one that is none.
+fn byte_of(n: u64) -> u8
+    ensures { λ r. ⌜ r ≡ pick (ltb n 256) n 255 ⌝ }
 {
-    (which == 0x05) | (which == 0x13) | (which == 0x12) | (which == 0x44) | (which == 0x54)
+    if 255 < n {
+        return 255;
+    }
+    n as u8
 }
 
 // A frame that is not heard while a cycle runs, by the kind and the case of its stage.
 fn foreign(kind: u64, which: u64) -> bool
-    ensures { λ r. ⌜ r ≡ foreignBy kind which ⌝ }
+    ensures { λ r. ⌜ r ≡ foreignToWip (stageOf kind which 0) ⌝ }
 {
-    if kind < 3 {
-        return false;
-    }
-    if kind == 3 {
-        return !heard(which);
-    }
-    if (kind == 4) | (kind == 5) {
-        return which != 1;
-    }
-    if kind == 6 {
-        return which < 2;
-    }
-    !((which == 2) | (which == 3))
+    let stage = crate::stage_of(byte_of(kind), byte_of(which), 0);
+    stages::foreign_to_wip(stage)
 }
 
 fn case_limit(kind: u64) -> u64

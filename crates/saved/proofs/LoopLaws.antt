@@ -22,8 +22,8 @@ use Rattle.record.specs.Stages.{foreignToWip}
 use Rattle.record.proofs.PartLaws.{size-most}
 use Rattle.form.specs.Lines.{headOf}
 use Rattle.form.specs.Table.{Row, span, partIn, caseGood, valueLimit, targetLimit, stageGood, targetGood, keyOf, goodAfter, rows, partRow, registerRow, sramRow, dividerRow, startupRow, watchdogRow, delayRow, pulseRow, powerRow, markRow, welRow, protectionRow, lockRow, stageRow, offsetsRow, loadRow, nextRow, targetRow, leftRow, eepromRow, idRow}
-use Rattle.numbers.specs.Tables.{rowAt, rowCount, numberLimit, widths, lineCounts, linesBy}
-use Rattle.numbers.proofs.TableLaws.{row-width, row-lines}
+use Rattle.numbers.specs.Tables.{rowAt, rowCount, numberLimit}
+use Rattle.numbers.proofs.TableLaws.{widths, lineCounts, linesBy, row-width, row-lines}
 use Rattle.saved.specs.Reading.{Reading, reading, pastWord, numberAt, pastNumber, Got, got, settled, markAfter, runOf, lineRead, rowRead, rowsRead, textRead}
 use Rattle.saved.specs.Place.{filled, Holds, RowRead, TextRead}
 use Rattle.saved.proofs.ReadingLaws.{word-lines, number-lines}
@@ -375,9 +375,10 @@ module _ (r : Row) (n : ℕ) (g : Got) where
       }
 
 -- how many lines code reads, and room for each
-pub lines-are : (row l : ℕ) (m : List ℕ) (count : ℕ) → row < rowCount → Holds m count → l ≡ linesBy row (getD m 0 0) → l ≡ rowAt row .lines (take count m)
+pub lines-are : (row l : ℕ) (m : List ℕ) (count : ℕ) → row < rowCount → Holds m count → l ≡ rowAt row .lines (getD m 0 0 ∷ []) → l ≡ rowAt row .lines (take count m)
 lines-are row l m count h o e =
     e
+    ∙ row-lines (getD m 0 0 ∷ []) row h
     ∙ ap (λ (x : List ℕ). linesBy row (getD x 0 0)) (o .list)
     ∙ ap (linesBy row) (filled-at (take count m) 0)
     ∙ sym (row-lines (take count m) row h)

@@ -21,8 +21,8 @@ use Rattle.text.proofs.BufferLaws.{append-none, put-then, room-then, room-befor
 use Rattle.form.specs.Lines.{followed, numbersText, headOf, lineText}
 use Rattle.form.specs.Table.{Row, partIn, keyOf, span, numbersAt, rowText, textFrom, Good, rows}
 use Rattle.form.specs.Chip.{IsChip, formText}
-use Rattle.numbers.specs.Tables.{rowAt, rowCount, lineCounts, linesBy}
-use Rattle.numbers.proofs.TableLaws.{row-lines}
+use Rattle.numbers.specs.Tables.{rowAt, rowCount}
+use Rattle.numbers.proofs.TableLaws.{lineCounts, linesBy, row-lines}
 use Rattle.saved.specs.Reading.{markAfter, runText}
 use Rattle.saved.proofs.LoopLaws.{times-more, row-first}
 
@@ -234,9 +234,10 @@ unfolding textFrom rows
 left-all o ns i k b e p = part-all o (formText ns) (textFrom (drop i rows) k ns) b (p .part) (ap (λ (c : ℕ). textFrom (drop c rows) k ns) e)
 
 -- how many lines code writes: the part stands before the EEPROM's rows, and no row is empty
-pub lines-of : (ns : List ℕ) (i k l : ℕ) → i < rowCount → i ≤ k → l ≡ linesBy i (partIn ns) → l ≡ rowAt i .lines (take k ns)
+pub lines-of : (ns : List ℕ) (i k l : ℕ) → i < rowCount → i ≤ k → l ≡ rowAt i .lines (partIn ns ∷ []) → l ≡ rowAt i .lines (take k ns)
 lines-of ns i k l h o e =
     e
+    ∙ row-lines (partIn ns ∷ []) i h
     ∙ by-cases (eqb i 19)
     (λ t. ap (linesBy i) (sym (getD-take k ns 0 0 (past (eqb-true i 19 t) o))))
     (λ f. sym (no (sizeOf (partIn ns) / 8) (getD lineCounts i 0) f) ∙ no (sizeOf (partIn (take k ns)) / 8) (getD lineCounts i 0) f)
@@ -257,8 +258,8 @@ lines-least i part h =
     other : {t u : Bool} → t ≡ false → (t || u) ≡ true → u ≡ true
     other e g = rw e at g
 
-pub place-past : (i k n w part : ℕ) → i < rowCount → i ≤ k → n ≡ linesBy i part → 0 < w → i + 1 ≤ k + n * w
-place-past i k n w part h o e g = past (some n w (subst (λ (c : ℕ). 0 < c) (sym e) (lines-least i part h)) g) o
+pub place-past : (i k n w part : ℕ) → i < rowCount → i ≤ k → n ≡ rowAt i .lines (part ∷ []) → 0 < w → i + 1 ≤ k + n * w
+place-past i k n w part h o e g = past (some n w (subst (λ (c : ℕ). 0 < c) (sym (e ∙ row-lines (part ∷ []) i h)) (lines-least i part h)) g) o
   where
     some : (n w : ℕ) → 0 < n → 0 < w → 0 < n * w
     some zero w p q = absurd (omega arith)
