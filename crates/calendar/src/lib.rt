@@ -282,23 +282,44 @@ pub fn leap(year: u8) -> bool
     valid_year(year) & ((year / 16 * 10 + year % 16) % 4 == 0)
 }
 
+// K12. The length of what is no month.
+const NO_MONTH: u8 = 0x31;
+
+// K12. The length of each month of a common year, in BCD, by the month's byte up to the last.
+const LENGTHS: [u8; 19] = [
+    NO_MONTH, // 00h
+    0x31, // January
+    0x28, // February
+    0x31, // March
+    0x30, // April
+    0x31, // May
+    0x30, // June
+    0x31, // July
+    0x31, // August
+    0x30, // September
+    NO_MONTH, // 0Ah
+    NO_MONTH, // 0Bh
+    NO_MONTH, // 0Ch
+    NO_MONTH, // 0Dh
+    NO_MONTH, // 0Eh
+    NO_MONTH, // 0Fh
+    0x31, // October
+    0x30, // November
+    0x31, // December
+];
+
 // K12. In BCD. A month that is not valid has 31 days.
 pub fn month_length(month: u8, leap: bool) -> u8
     ensures { λ r. ⌜ r ≡ monthLength month leap ⌝ }
 {
-    if !valid_month(month) {
-        return 0x31;
+    if leap & (month == 0x02) {
+        return 0x29;
     }
-    if month == 0x02 {
-        if leap {
-            return 0x29;
-        }
-        return 0x28;
+    if month <= MONTH_LAST {
+        let i = month as usize;
+        return LENGTHS[i];
     }
-    if ((month == 0x04) | (month == 0x06)) | ((month == 0x09) | (month == 0x11)) {
-        return 0x30;
-    }
-    0x31
+    NO_MONTH
 }
 
 pub fn valid_date(month: u8, year: u8, x: u8) -> bool
