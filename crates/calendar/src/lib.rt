@@ -285,8 +285,8 @@ pub fn leap(year: u8) -> bool
 // K12. The length of what is no month.
 const NO_MONTH: u8 = 0x31;
 
-// K12. The length of each month of a common year, in BCD, by the month's byte up to the last.
-const LENGTHS: [u8; 19] = [
+// K12. The length of each month of a common year, in BCD, by the month's field.
+const LENGTHS: [u8; 32] = [
     NO_MONTH, // 00h
     0x31, // January
     0x28, // February
@@ -306,6 +306,19 @@ const LENGTHS: [u8; 19] = [
     0x31, // October
     0x30, // November
     0x31, // December
+    NO_MONTH, // 13h
+    NO_MONTH, // 14h
+    NO_MONTH, // 15h
+    NO_MONTH, // 16h
+    NO_MONTH, // 17h
+    NO_MONTH, // 18h
+    NO_MONTH, // 19h
+    NO_MONTH, // 1Ah
+    NO_MONTH, // 1Bh
+    NO_MONTH, // 1Ch
+    NO_MONTH, // 1Dh
+    NO_MONTH, // 1Eh
+    NO_MONTH, // 1Fh
 ];
 
 // K12. In BCD. A month that is not valid has 31 days.
@@ -315,7 +328,7 @@ pub fn month_length(month: u8, leap: bool) -> u8
     if leap & (month == 0x02) {
         return 0x29;
     }
-    if month <= MONTH_LAST {
+    if month < 32 {
         let i = month as usize;
         return LENGTHS[i];
     }

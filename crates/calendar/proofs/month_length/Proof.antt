@@ -1,5 +1,5 @@
--- `month_length` answers `monthLength`: a leap February by its test, a byte past the last month by its bound, every other by the table, which the
--- checker compares with the rule entry by entry. The list of `_` is the code's table, whatever it holds.
+-- `month_length` answers `monthLength`: a leap February by its test, a byte past the field by its bound, every other by the table, which the checker
+-- compares with the rule entry by entry. The list of `_` is the code's table, whatever it holds.
 -- Assumes nothing.
 use mathlib.Core.Path.{refl}
 use mathlib.Core.List.{[], _∷_}
@@ -19,8 +19,10 @@ returns-2 : tie.Need-returns-2
 unfolding every validField monthLength
 returns-2 c =
     let a = c .before .before .args in
-    in-table (_ ∷ _ ∷ _ ∷ _ ∷ _ ∷ _ ∷ _ ∷ _ ∷ _ ∷ _ ∷ _ ∷ _ ∷ _ ∷ _ ∷ _ ∷ _ ∷ _ ∷ _ ∷ _ ∷ []) (a .month) (a .leap)
-    (c .before .if1 .left) (omega arith) refl
+    in-table
+    (_ ∷ _ ∷ _ ∷ _ ∷ _ ∷ _ ∷ _ ∷ _ ∷ _ ∷ _ ∷ _ ∷ _ ∷ _ ∷ _ ∷ _ ∷ _ ∷
+    _ ∷ _ ∷ _ ∷ _ ∷ _ ∷ _ ∷ _ ∷ _ ∷ _ ∷ _ ∷ _ ∷ _ ∷ _ ∷ _ ∷ _ ∷ _ ∷ [])
+    (a .month) (a .leap) (c .before .if1 .left) (omega arith) refl
 
 returns-3 : tie.Need-returns-3
 returns-3 c = past-months _ _ (omega arith)
