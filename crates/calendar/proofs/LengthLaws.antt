@@ -36,10 +36,15 @@ pub in-table :
 in-table table month leap f h t =
     same-below (λ (m : ℕ). getD table m 0) (λ (m : ℕ). monthLength m false) (length table) t month h ∙ sym (leap-elsewhere month leap f)
 
--- K12. past the last month no byte is one, and the length is 31
+-- K12. what is no month has 31 days, in every year
+pub no-month : (month : ℕ) (leap : Bool) → validMonth month ≡ false → 0x31 ≡ monthLength month leap
+unfolding monthLength
+no-month month leap f = simp f
+
+-- K12. and past the last month there is none
 pub past-months : (month : ℕ) (leap : Bool) → 0x12 < month → 0x31 ≡ monthLength month leap
-unfolding monthLength validField
-past-months month leap h = simp (lt-leb month 0x12 h, and-false)
+unfolding validField
+past-months month leap h = no-month month leap (simp (lt-leb month 0x12 h, and-false))
 
 -- the days of the months whose bytes are below n
 pub daysBelow : Bool → ℕ → ℕ
