@@ -28,6 +28,11 @@ use Rattle.tape.proofs.chunk.feed.Met as feed
 use Rattle.tape.proofs.chunk.finish.Met as finish
 use Rattle.saved.proofs.save.Met as save
 use Rattle.saved.proofs.load.Met as load
+use Rattle.export.proofs.ClaimLaws.{calls-right}
+use Rattle.export.proofs.mcp795_new.Met as mcp795-new
+use Rattle.calls.proofs.mcp795_act.Met as mcp795-act
+use Rattle.export.proofs.mcp795_save.Met as mcp795-save
+use Rattle.export.proofs.mcp795_load.Met as mcp795-load
 use Rattle.claims.specs.Demands.{Total, Exact, Accountable, Resumed, Demands}
 
 total : Total
@@ -57,6 +62,10 @@ exact =
       finish = finish.met;
       save = save.met;
       load = load.met;
+      mcp795-new = mcp795-new.met;
+      mcp795-act = mcp795-act.met;
+      mcp795-save = mcp795-save.met;
+      mcp795-load = mcp795-load.met;
     }
 
 accountable : Accountable
@@ -94,4 +103,5 @@ demands =
       repliesShown = replies-shown;
       saved = saved-right;
       resumed = resumed;
+      calls = calls-right;
     }

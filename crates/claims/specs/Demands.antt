@@ -25,6 +25,7 @@ use Rattle.answers.specs.Answer.{Setup, lineAnswer, SevenRow, RepliesShown}
 use Rattle.feeding.specs.Begin.{ResumesWith, ChipAnswers, CutInTwo, TapeRuns}
 use Rattle.feeding.specs.Feeding.{AnyFeeding, AnyResumed, ResumedAccounted, CutFeeding}
 use Rattle.form.specs.Claim.{SavedRight}
+use Rattle.export.specs.Claim.{CallsRight}
 use Rattle.acts.proofs.perform.Statement as perform
 use Rattle.run.proofs.run.Statement as run
 use Rattle.run.proofs.run_from.Statement as run-from
@@ -35,6 +36,10 @@ use Rattle.tape.proofs.chunk.feed.Statement as feed
 use Rattle.tape.proofs.chunk.finish.Statement as finish
 use Rattle.saved.proofs.save.Statement as save
 use Rattle.saved.proofs.load.Statement as load
+use Rattle.export.proofs.mcp795_new.Statement as mcp795-new
+use Rattle.calls.proofs.mcp795_act.Statement as mcp795-act
+use Rattle.export.proofs.mcp795_save.Statement as mcp795-save
+use Rattle.export.proofs.mcp795_load.Statement as mcp795-load
 
 -- Demand 1, total: whatever the part, the act, its argument, the record and the memories are, there is an answer; and so of any line of bytes on a
 -- tape. `performed` is the definition of an act, `lineAnswer` that of a line; that code computes them and always ends is demand 2.
@@ -73,6 +78,11 @@ pub record Exact : Type 2 where
   -- crates/saved/src/lib.rt. A chip as text, and from text
   pub save : {M : Type 1} → save.statement M
   pub load : {M : Type 1} → load.statement M
+  -- crates/calls/src/lib.rt, crates/export/src/lib.rt. The chip as arrays of a caller in another language: a fresh one, an act, its text, and from text
+  pub mcp795-new : {M : Type 1} → mcp795-new.statement M
+  pub mcp795-act : {M : Type 1} → mcp795-act.statement M
+  pub mcp795-save : {M : Type 1} → mcp795-save.statement M
+  pub mcp795-load : {M : Type 1} → mcp795-load.statement M
 
 -- Demand 3, accountable: after every list of acts on a fresh chip each EEPROM and ID byte is the one that the ledger gives, which is told the part, acts,
 -- arguments and ticks alone.
@@ -121,3 +131,5 @@ pub record Demands : Type 2 where
   pub saved : SavedRight
   -- a tape that begins with a saved chip, and a run that is cut in two
   pub resumed : Resumed
+  -- a caller's arrays: each call is the act on the chip that they are, calls in a row are a run, and the ledger accounts for their memories
+  pub calls : CallsRight

@@ -1,1 +1,1 @@
-pub mod ResaveLaws
+pub mod ClaimLaws

@@ -1,1 +1,1 @@
-pub mod Resave
+pub mod Claim

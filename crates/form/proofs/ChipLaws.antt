@@ -10,7 +10,7 @@ use borrow.Author.Tests.{ltb-true, ltb-false, leb-true, ne-eqb}
 use lib.Dec.{ltb, leb, eqb}
 use lib.Bits.{bitAnd, and-le-r}
 use lib.ListN.{length, take, drop, getD, length-append, length-drop, List·getD-append, List·getD-eq-default, take-append-drop}
-use lib.Seq.{getD-take, getD-drop, drop-drop, drop-at, take-at, take-all, drop-cons, length-take-le}
+use lib.Seq.{getD-take, getD-drop, drop-drop, drop-at, take-at, take-all, drop-cons, drop-length, length-take-le}
 use Rattle.base.specs.Words.{pick, flag, bit, every}
 use Rattle.base.proofs.Tests.{by-cases, no, neither, neither-left, neither-right, true-false, flag-below}
 use Rattle.base.proofs.Every.{same-below, bound-below}
@@ -28,9 +28,9 @@ use Rattle.record.proofs.NumberLaws.{protection-back, protection-below, lock-ba
 use Rattle.record.proofs.PartLaws.{size-most}
 use Rattle.refusals.specs.InRange.{ClockRange, PowerRange}
 use Rattle.form.specs.Table.{partIn, registerIn, powerIn, stageIn, startupBy, startupLimit, watchdogBy, markBy, kindBy, caseGood, valueLimit, targetLimit, leftBy, leftLimit}
-use Rattle.form.specs.Chip.{headNumbers, tailNumbers, numbersOf, deviceOf, worldOf, IsChip, Sound}
-use Rattle.form.specs.Facts.{Facts, BytesFrom}
-use Rattle.form.proofs.FactLaws.{facts-good, good-facts}
+use Rattle.form.specs.Chip.{headNumbers, tailNumbers, numbersBefore, numbersOf, stateNumbers, isRecord, deviceOf, worldOf, IsChip, Sound, SoundRecord}
+use Rattle.form.specs.Facts.{RecordFacts, Facts, BytesFrom}
+use Rattle.form.proofs.FactLaws.{facts-good, good-facts, facts-recorded, recorded-facts}
 use Rattle.form.proofs.StageLaws.{kind-below, idle-kind, kind-idle, case-good, value-below, StageFrom, stage-from, target-kind-below, target-below, TargetFrom, protection-of, target-from}
 
 -- numbers that stand for a test, and for the lock
@@ -93,22 +93,17 @@ left-none true false n h g e = absurd (true-false refl e)
 left-none true true zero h g e = refl
 left-none true true (suc n) h g e = absurd (true-false refl (g (omega arith)))
 
-module _ (part : ℕ) (w : World) (s : Sound part w) where
-  abbrev d : Device
-  d = w .device
-
+-- Part and record, whatever stands behind them.
+module _ (part : ℕ) (d : Device) (rest : List ℕ) (s : SoundRecord part d) where
   abbrev ns : List ℕ
-  ns = numbersOf part w
+  ns = numbersBefore part d rest
 
   abbrev size : ℕ
   size = sizeOf part
 
   -- the list from each of its pieces on
-  abbrev fromEeprom : List ℕ
-  fromEeprom = w .eeprom ++ w .id
-
   abbrev fromTail : List ℕ
-  fromTail = tailNumbers (d .load) (d .cycle) ++ fromEeprom
+  fromTail = tailNumbers (d .load) (d .cycle) ++ rest
 
   abbrev fromLoad : List ℕ
   fromLoad = d .load .bytes ++ fromTail
@@ -117,23 +112,19 @@ module _ (part : ℕ) (w : World) (s : Sound part w) where
   fromHead = headNumbers d ++ fromLoad
 
   from-33 : drop 33 ns ≡ d .sram ++ fromHead
-  unfolding numbersOf
-  from-33 = drop-at (d .regs) (d .sram ++ fromHead) 32 (s .shaped .sized .regs)
+  from-33 = drop-at (d .regs) (d .sram ++ fromHead) 32 (s .sized .regs)
 
-  from-97 : drop 97 ns ≡ fromHead
-  from-97 = sym (drop-drop 64 33 ns) ∙ ap (drop 64) from-33 ∙ drop-at (d .sram) fromHead 64 (s .shaped .sized .sram)
+  pub from-97 : drop 97 ns ≡ fromHead
+  from-97 = sym (drop-drop 64 33 ns) ∙ ap (drop 64) from-33 ∙ drop-at (d .sram) fromHead 64 (s .sized .sram)
 
   from-111 : drop 111 ns ≡ fromLoad
   from-111 = sym (drop-drop 14 97 ns) ∙ ap (drop 14) from-97
 
   from-119 : drop 119 ns ≡ fromTail
-  from-119 = sym (drop-drop 8 111 ns) ∙ ap (drop 8) from-111 ∙ drop-at (d .load .bytes) fromTail 8 (s .shaped .sized .bytes)
+  from-119 = sym (drop-drop 8 111 ns) ∙ ap (drop 8) from-111 ∙ drop-at (d .load .bytes) fromTail 8 (s .sized .bytes)
 
-  from-123 : drop 123 ns ≡ fromEeprom
+  pub from-123 : drop 123 ns ≡ rest
   from-123 = sym (drop-drop 4 119 ns) ∙ ap (drop 4) from-119
-
-  from-id : drop (123 + size) ns ≡ w .id
-  from-id = sym (drop-drop size 123 ns) ∙ ap (drop size) from-123 ∙ drop-at (w .eeprom) (w .id) size (s .shaped .eeprom)
 
   -- a number by its piece
   at : (k : ℕ) {l : List ℕ} → drop k ns ≡ l → (j : ℕ) → getD ns (k + j) 0 ≡ getD l j 0
@@ -143,8 +134,7 @@ module _ (part : ℕ) (w : World) (s : Sound part w) where
   inside x y n j e h = List·getD-append x y 0 j (subst (λ (m : ℕ). j < m) (sym e) h)
 
   at-register : (j : ℕ) → j < 32 → registerIn ns j ≡ getD (d .regs) j 0
-  unfolding numbersOf
-  at-register j h = at 1 refl j ∙ inside (d .regs) (d .sram ++ fromHead) 32 j (s .shaped .sized .regs) h
+  at-register j h = at 1 refl j ∙ inside (d .regs) (d .sram ++ fromHead) 32 j (s .sized .regs) h
 
   -- the numbers of the record that stand alone
   head-at : (j : ℕ) → getD ns (97 + j) 0 ≡ getD fromHead j 0
@@ -162,22 +152,17 @@ module _ (part : ℕ) (w : World) (s : Sound part w) where
   power-told : powerIn ns ≡ d .power
   power-told = ap (λ (n : ℕ). eqb n 1) (head-at 5) ∙ flag-back (d .power)
 
-  -- the whole list is the chip
-  pub part-back : partIn ns ≡ part
-  unfolding numbersOf
-  part-back = refl
-
+  -- the list is the record
   regs-told : take 32 (drop 1 ns) ≡ d .regs
-  unfolding numbersOf
-  regs-told = take-at (d .regs) (d .sram ++ fromHead) 32 (s .shaped .sized .regs)
+  regs-told = take-at (d .regs) (d .sram ++ fromHead) 32 (s .sized .regs)
 
   sram-told : take 64 (drop 33 ns) ≡ d .sram
-  sram-told = ap (take 64) from-33 ∙ take-at (d .sram) fromHead 64 (s .shaped .sized .sram)
+  sram-told = ap (take 64) from-33 ∙ take-at (d .sram) fromHead 64 (s .sized .sram)
 
   load-told : take 8 (drop 111 ns) ≡ d .load .bytes
-  load-told = ap (take 8) from-111 ∙ take-at (d .load .bytes) fromTail 8 (s .shaped .sized .bytes)
+  load-told = ap (take 8) from-111 ∙ take-at (d .load .bytes) fromTail 8 (s .sized .bytes)
 
-  device-told : deviceOf ns ≡ d
+  pub device-told : deviceOf ns ≡ d
   device-told i =
       record {
         regs = regs-told i;
@@ -196,47 +181,42 @@ module _ (part : ℕ) (w : World) (s : Sound part w) where
         cycle = record { target = target-told i; left = tail-at 3 i };
       }
 
-  eeprom-told : take (sizeOf (partIn ns)) (drop 123 ns) ≡ w .eeprom
-  eeprom-told =
-      ap (λ (p : ℕ). take (sizeOf p) (drop 123 ns)) part-back ∙ ap (take size) from-123 ∙ take-at (w .eeprom) (w .id) size (s .shaped .eeprom)
-
-  id-told : take idSize (drop (123 + sizeOf (partIn ns)) ns) ≡ w .id
-  id-told =
-      ap (λ (p : ℕ). take idSize (drop (123 + sizeOf p) ns)) part-back ∙ ap (take 16) from-id ∙ take-all 16 (w .id) (le-of-eq (s .shaped .id))
-
-  pub world-back : worldOf ns ≡ w
-  unfolding worldOf
-  world-back i = world (device-told i) (eeprom-told i) (id-told i)
-
   -- its length
-  piece-long : (n m : ℕ) (l : List ℕ) → drop 123 ns ≡ l → length l ≡ n + m → 0 < m → length ns ≡ 123 + n + m
-  piece-long n m l e h z = omega (arith, length-drop 123 ns, ap length e, h, z)
-
-  chip-long : length ns ≡ 123 + size + idSize
-  chip-long =
-      piece-long size 16 fromEeprom from-123 (length-append (w .eeprom) (w .id) ∙ (λ i. s .shaped .eeprom i + s .shaped .id i)) (ltb-true 0 16 refl)
+  pub state-long : length ns ≡ 123 + length rest
+  state-long =
+      long (d .regs) (d .sram) (headNumbers d) (d .load .bytes) (tailNumbers (d .load) (d .cycle)) rest (s .sized .regs) (s .sized .sram) refl
+      (s .sized .bytes) refl
+    where
+      long :
+          (r q h b t m : List ℕ) → length r ≡ 32 → length q ≡ 64 → length h ≡ 14 → length b ≡ 8 → length t ≡ 4
+          → length (part ∷ (r ++ (q ++ (h ++ (b ++ (t ++ m)))))) ≡ 123 + length m
+      long r q h b t m lr lq lh lb lt =
+          omega (arith, lr, lq, lh, lb, lt, length-append r (q ++ (h ++ (b ++ (t ++ m)))), length-append q (h ++ (b ++ (t ++ m))), length-append h (b ++ (t ++ m)), length-append b (t ++ m), length-append t m)
 
   -- bytes by their piece
   bytes-in : (k n : ℕ) (x y : List ℕ) → drop k ns ≡ x ++ y → length x ≡ n → Bytes x → BytesFrom ns k n
   bytes-in k n x y e l b j h = subst (λ (v : ℕ). v < 256) (sym (at k e j ∙ inside x y n j l h)) (b j)
 
   startup-limit : startupLimit ns ≡ startupBy (bootsOf part) (st (d .regs))
-  startup-limit i = startupBy (bootsOf (part-back i)) (bit (at-register 1 (ltb-true 1 32 refl) i) 7)
+  startup-limit i = startupBy (bootsOf part) (bit (at-register 1 (ltb-true 1 32 refl) i) 7)
+
+  from-long : {n : ℕ} (m : ℕ) → n ≡ 123 + m → 123 ≤ n
+  from-long m h = omega (arith, h)
 
   left-limit : leftLimit ns ≡ leftBy (d .power) (foreignToWip (d .frame .stage))
   left-limit i = leftBy (power-told i) (foreignToWip (stage-told i))
 
-  pub sound-facts : Facts ns
-  sound-facts =
+  pub record-facts : RecordFacts ns
+  record-facts =
       let c = s .range .clock in
       let q = s .range .power in
       let g = d .frame .stage in
       record {
-        long = chip-long ∙ ap (λ (p : ℕ). 123 + sizeOf p + idSize) (sym part-back);
-        part = ap isPart part-back ∙ s .named;
+        reach = from-long (length rest) state-long;
+        part = s .named;
         regBytes = λ j h. low (at-register j h) refl (register-byte j (getD (d .regs) j 0) h (c .inside j h));
         regs = λ j h. (λ i. bitAnd (at-register j h i) (getD kept j 0)) ∙ c .inside j h ∙ sym (at-register j h);
-        sram = bytes-in 33 64 (d .sram) fromHead from-33 (s .shaped .sized .sram) (s .shaped .sized .sramBytes);
+        sram = bytes-in 33 64 (d .sram) fromHead from-33 (s .sized .sram) (s .sized .sramBytes);
         divider = low (head-at 0) refl (c .divider);
         startup =
             low (head-at 1) startup-limit
@@ -253,22 +233,70 @@ module _ (part : ℕ) (w : World) (s : Sound part w) where
         kind = low (head-at 10) (λ i. kindBy (power-told i)) (kind-within (d .power) g (q .idle));
         which = (λ i. caseGood (head-at 10 i) (head-at 11 i)) ∙ case-good g;
         value =
-            low (head-at 12) (λ i. valueLimit (sizeOf (part-back i)) (head-at 10 i) (head-at 11 i)) (value-below size g (s .range .frame .place) (s .carried));
-        offsets = low (head-at 13) refl (s .shaped .sized .offsets);
-        load = bytes-in 111 8 (d .load .bytes) fromTail from-111 (s .shaped .sized .bytes) (s .shaped .sized .loadBytes);
+            low (head-at 12) (λ i. valueLimit size (head-at 10 i) (head-at 11 i)) (value-below size g (s .range .frame .place) (s .carried));
+        offsets = low (head-at 13) refl (s .sized .offsets);
+        load = bytes-in 111 8 (d .load .bytes) fromTail from-111 (s .sized .bytes) (s .sized .loadBytes);
         next = low (tail-at 0) refl (s .range .frame .offset);
         target = low (tail-at 1) refl (target-kind-below (d .cycle .target));
-        place = low (tail-at 2) (λ i. targetLimit (sizeOf (part-back i)) (tail-at 1 i)) (target-below size (d .cycle .target) (s .range .cycle .place));
+        place = low (tail-at 2) (λ i. targetLimit size (tail-at 1 i)) (target-below size (d .cycle .target) (s .range .cycle .place));
         left =
             low (tail-at 3) left-limit
             (open-limit (d .power && not (foreignToWip g)) (d .cycle .left) cycleTicks (above-none (s .range .cycle .countdown))
             (left-none (d .power) (foreignToWip g) (d .cycle .left) (q .still) (q .heard)));
-        eeprom =
-            subst (λ (p : ℕ). BytesFrom ns 123 (sizeOf p)) (sym part-back)
-            (bytes-in 123 size (w .eeprom) (w .id) from-123 (s .shaped .eeprom) (s .shaped .eepromBytes));
+      }
+
+-- With the memories behind them.
+module _ (part : ℕ) (w : World) (s : Sound part w) where
+  abbrev whole : List ℕ
+  whole = numbersOf part w
+
+  abbrev memories : List ℕ
+  memories = w .eeprom ++ w .id
+
+  pub sound-record : SoundRecord part (w .device)
+  sound-record = record { named = s .named; range = s .range; sized = s .shaped .sized; carried = s .carried }
+
+  pub part-back : partIn whole ≡ part
+  unfolding numbersOf
+  part-back = refl
+
+  from-eeprom : drop 123 whole ≡ memories
+  unfolding numbersOf
+  from-eeprom = from-123 part (w .device) memories sound-record
+
+  from-id : drop (123 + sizeOf part) whole ≡ w .id
+  from-id = sym (drop-drop (sizeOf part) 123 whole) ∙ ap (drop (sizeOf part)) from-eeprom ∙ drop-at (w .eeprom) (w .id) (sizeOf part) (s .shaped .eeprom)
+
+  eeprom-told : take (sizeOf (partIn whole)) (drop 123 whole) ≡ w .eeprom
+  eeprom-told =
+      ap (λ (p : ℕ). take (sizeOf p) (drop 123 whole)) part-back
+      ∙ ap (take (sizeOf part)) from-eeprom
+      ∙ take-at (w .eeprom) (w .id) (sizeOf part) (s .shaped .eeprom)
+
+  id-told : take idSize (drop (123 + sizeOf (partIn whole)) whole) ≡ w .id
+  id-told =
+      ap (λ (p : ℕ). take idSize (drop (123 + sizeOf p) whole)) part-back ∙ ap (take 16) from-id ∙ take-all 16 (w .id) (le-of-eq (s .shaped .id))
+
+  pub world-back : worldOf whole ≡ w
+  unfolding worldOf numbersOf
+  world-back i = world (device-told part (w .device) memories sound-record i) (eeprom-told i) (id-told i)
+
+  chip-long : length whole ≡ 123 + sizeOf part + idSize
+  unfolding numbersOf
+  chip-long = sum (state-long part (w .device) memories sound-record) (length-append (w .eeprom) (w .id)) (s .shaped .eeprom) (s .shaped .id)
+    where
+      sum : {n m a b size : ℕ} → n ≡ 123 + m → m ≡ a + b → a ≡ size → b ≡ 16 → n ≡ 123 + size + 16
+      sum p q e i = omega (arith, p, q, e, i)
+
+  pub sound-facts : Facts whole
+  unfolding numbersOf
+  sound-facts =
+      record {
+        first = record-facts part (w .device) memories sound-record;
+        long = chip-long;
+        eeprom = bytes-in part (w .device) memories sound-record 123 (sizeOf part) (w .eeprom) (w .id) from-eeprom (s .shaped .eeprom) (s .shaped .eepromBytes);
         id =
-            subst (λ (p : ℕ). BytesFrom ns (123 + sizeOf p) idSize) (sym part-back)
-            (bytes-in (123 + size) 16 (w .id) [] (from-id ∙ sym (append-nil (w .id))) (s .shaped .id) (s .shaped .idBytes));
+            bytes-in part (w .device) memories sound-record (123 + sizeOf part) 16 (w .id) [] (from-id ∙ sym (append-nil (w .id))) (s .shaped .id) (s .shaped .idBytes);
       }
 
 -- power, mark, frame and cycle from their numbers
@@ -293,7 +321,7 @@ power-from false n s y h k l =
     }
 
 -- The other way: numbers for which the facts hold.
-module _ (ms : List ℕ) (f : Facts ms) where
+module _ (ms : List ℕ) (f : RecordFacts ms) where
   abbrev e : Device
   e = deviceOf ms
 
@@ -318,10 +346,10 @@ module _ (ms : List ℕ) (f : Facts ms) where
       rw (List·getD-eq-default (take n (drop k ms)) 0 {n = j} past) (ltb-true 0 256 refl))
 
   fits : (k : ℕ) → leb k 123 ≡ true → k ≤ length ms
-  fits k t = within room (leb-true k 123 t) (f .long)
+  fits k t = within (leb-true k 123 t) (f .reach)
     where
-      within : {a b : ℕ} (m : ℕ) → a ≤ 123 → b ≡ 123 + m + 16 → a ≤ b
-      within m h g = omega (arith, h, g)
+      within : {a b : ℕ} → a ≤ 123 → 123 ≤ b → a ≤ b
+      within h g = omega (arith, h, g)
 
   stage-is : StageFrom room (getD ms 107 0) (getD ms 108 0) (getD ms 109 0) (stageIn ms)
   stage-is =
@@ -359,9 +387,8 @@ module _ (ms : List ℕ) (f : Facts ms) where
   power-in : PowerRange (e .power) (e .mark) (e .frame .stage) (e .cycle)
   power-in = power-from (powerIn ms) (getD ms 103 0) (stageIn ms) (e .cycle) (f .mark) (low (stage-is .kind) refl (f .kind)) (f .left)
 
-  pub facts-sound : Sound (partIn ms) (worldOf ms)
-  unfolding worldOf
-  facts-sound =
+  pub record-sound : SoundRecord (partIn ms) e
+  record-sound =
       record {
         named = f .part;
         range =
@@ -371,27 +398,17 @@ module _ (ms : List ℕ) (f : Facts ms) where
               cycle = record { countdown = limit-open (powerIn ms && not (foreignToWip (stageIn ms))) (getD ms 122 0) cycleTicks (f .left) .0; place = target-is .place };
               power = power-in;
             };
-        shaped =
+        sized =
             record {
-              sized =
-                  record {
-                    regs = piece-length 1 32 (fits 33 refl);
-                    sram = piece-length 33 64 (fits 97 refl);
-                    bytes = piece-length 111 8 (fits 119 refl);
-                    offsets = f .offsets;
-                    sramBytes = piece-bytes 33 64 (fits 97 refl) (f .sram);
-                    loadBytes = piece-bytes 111 8 (fits 119 refl) (f .load);
-                  };
-              eeprom = piece-length 123 room (le-eeprom room (f .long));
-              id = piece-length (123 + room) 16 (le-of-eq (sym (f .long)));
-              eepromBytes = piece-bytes 123 room (le-eeprom room (f .long)) (f .eeprom);
-              idBytes = piece-bytes (123 + room) 16 (le-of-eq (sym (f .long))) (f .id);
+              regs = piece-length 1 32 (fits 33 refl);
+              sram = piece-length 33 64 (fits 97 refl);
+              bytes = piece-length 111 8 (fits 119 refl);
+              offsets = f .offsets;
+              sramBytes = piece-bytes 33 64 (fits 97 refl) (f .sram);
+              loadBytes = piece-bytes 111 8 (fits 119 refl) (f .load);
             };
         carried = stage-is .byte;
       }
-    where
-      le-eeprom : {n : ℕ} (m : ℕ) → n ≡ 123 + m + 16 → 123 + m ≤ n
-      le-eeprom m h = omega (arith, h)
 
   -- one number before the rest of the list, and a piece of it
   one : (k : ℕ) {v : ℕ} {l : List ℕ} → leb (suc k) 123 ≡ true → v ≡ getD ms k 0 → l ≡ drop (suc k) ms → _≡_ {A = List ℕ} (v ∷ l) (drop k ms)
@@ -400,12 +417,8 @@ module _ (ms : List ℕ) (f : Facts ms) where
   piece : (k n : ℕ) {l : List ℕ} → l ≡ drop (k + n) ms → take n (drop k ms) ++ l ≡ drop k ms
   piece k n q = ap (λ (x : List ℕ). take n (drop k ms) ++ x) (q ∙ sym (drop-drop n k ms)) ∙ take-append-drop n (drop k ms)
 
-  rest-short : {n : ℕ} (m : ℕ) → n ≡ 123 + m + 16 → n - (123 + m) ≤ 16
-  rest-short m h = omega (arith, h)
-
-  pub numbers-back : numbersOf (partIn ms) (worldOf ms) ≡ ms
-  unfolding numbersOf worldOf
-  numbers-back =
+  pub record-back : (rest : List ℕ) → rest ≡ drop 123 ms → numbersBefore (partIn ms) e rest ≡ ms
+  record-back rest q =
       one 0 refl refl
       (piece 1 32
       (piece 33 64
@@ -427,13 +440,53 @@ module _ (ms : List ℕ) (f : Facts ms) where
       (one 119 refl refl
       (one 120 refl (target-is .kind)
       (one 121 refl (target-is .value)
-      (one 122 refl refl
-      (piece 123 room
-      (take-all 16 (drop (123 + room) ms) (subst (λ (n : ℕ). n ≤ 16) (sym (length-drop (123 + room) ms)) (rest-short room (f .long))))))))))))))))))))))))))
+      (one 122 refl refl q)))))))))))))))))))))
     where
       mark-low : {k : ℕ} (p : Bool) → k < markBy p → k < 2
       mark-low true h = omega (arith, h)
       mark-low false h = h
+
+-- With the memories behind the record.
+module _ (ms : List ℕ) (f : Facts ms) where
+  abbrev space : ℕ
+  space = sizeOf (partIn ms)
+
+  to-id : 123 + space ≤ length ms
+  to-id = before-id space (f .long)
+    where
+      before-id : {n : ℕ} (m : ℕ) → n ≡ 123 + m + 16 → 123 + m ≤ n
+      before-id m h = omega (arith, h)
+
+  to-end : 123 + space + 16 ≤ length ms
+  to-end = le-of-eq (sym (f .long))
+
+  pub facts-sound : Sound (partIn ms) (worldOf ms)
+  unfolding worldOf
+  facts-sound =
+      let r = record-sound ms (f .first) in
+      record {
+        named = r .named;
+        range = r .range;
+        shaped =
+            record {
+              sized = r .sized;
+              eeprom = piece-length ms (f .first) 123 space to-id;
+              id = piece-length ms (f .first) (123 + space) 16 to-end;
+              eepromBytes = piece-bytes ms (f .first) 123 space to-id (f .eeprom);
+              idBytes = piece-bytes ms (f .first) (123 + space) 16 to-end (f .id);
+            };
+        carried = r .carried;
+      }
+
+  rest-short : {n : ℕ} (m : ℕ) → n ≡ 123 + m + 16 → n - (123 + m) ≤ 16
+  rest-short m h = omega (arith, h)
+
+  pub numbers-back : numbersOf (partIn ms) (worldOf ms) ≡ ms
+  unfolding numbersOf worldOf
+  numbers-back =
+      record-back ms (f .first) _
+      (piece ms (f .first) 123 space
+      (take-all 16 (drop (123 + space) ms) (subst (λ (n : ℕ). n ≤ 16) (sym (length-drop (123 + space) ms)) (rest-short space (f .long)))))
 
 -- Together: the numbers of a chip in range, and the chip of good numbers.
 pub sound-numbers : (part : ℕ) (w : World) → Sound part w → IsChip (numbersOf part w)
@@ -444,3 +497,19 @@ chip-sound ns g = facts-sound ns (good-facts ns g)
 
 pub chip-numbers : (ns : List ℕ) → IsChip ns → numbersOf (partIn ns) (worldOf ns) ≡ ns
 chip-numbers ns g = numbers-back ns (good-facts ns g)
+
+-- The state array of a record in range, and the record of an array that passes the test.
+pub recorded : (part : ℕ) (d : Device) → SoundRecord part d → isRecord (stateNumbers part d) ≡ true
+unfolding stateNumbers
+recorded part d s = facts-recorded (stateNumbers part d) (record-facts part d [] s) (state-long part d [] s)
+
+pub recorded-sound : (ns : List ℕ) → isRecord ns ≡ true → SoundRecord (partIn ns) (deviceOf ns)
+recorded-sound ns t = record-sound ns (recorded-facts ns t .0)
+
+pub numbers-again : (ns : List ℕ) → isRecord ns ≡ true → stateNumbers (partIn ns) (deviceOf ns) ≡ ns
+unfolding stateNumbers
+numbers-again ns t = record-back ns (recorded-facts ns t .0) [] (sym (drop-length ns) ∙ ap (λ (n : ℕ). drop n ns) (recorded-facts ns t .1))
+
+pub device-again : (part : ℕ) (d : Device) → SoundRecord part d → deviceOf (stateNumbers part d) ≡ d
+unfolding stateNumbers
+device-again part d s = device-told part d [] s

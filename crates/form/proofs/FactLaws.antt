@@ -1,26 +1,27 @@
 -- A list of numbers is good by the table exactly if the facts hold of it, place by place.
 -- Assumes nothing.
 use mathlib.Core.Path.{_≡_, refl, sym, ap, subst, _∙_}
-use mathlib.Core.Bool.{Bool, true, not}
-use mathlib.Core.List.{List, [], _∷_}
+use mathlib.Core.Bool.{Bool, true, not, _&&_}
+use mathlib.Core.List.{List, [], _∷_, _++_}
 use Prim.Native.Nat.{ℕ, zero, suc, _+_, _*_, _/_, _<_, _≤_}
 use native.Mathlib.Nat.{le-of-suc-le-suc, not-suc-le-zero, le-of-eq}
 use native.Mathlib.Omega.{arith}
-use borrow.Author.Tests.{lt-ltb, ltb-true, leb-true, eq-eqb, eqb-true}
+use borrow.Author.Tests.{lt-ltb, ltb-true, le-leb, leb-true, eq-eqb, eqb-true}
 use lib.Dec.{ltb, leb, eqb}
 use lib.Bits.{bitAnd}
 use lib.ListN.{length, take, getD}
 use lib.Seq.{getD-take}
-use Rattle.base.specs.Words.{bit}
+use Rattle.base.specs.Words.{bit, every}
 use Rattle.base.proofs.Tests.{both-left, both-right, both-true}
+use Rattle.base.proofs.Every.{every-at, every-all}
 use Rattle.record.specs.Numbers.{stageOf}
 use Rattle.record.specs.Part.{sizeOf, bootsOf}
 use Rattle.record.specs.Registers.{kept}
 use Rattle.record.specs.Stages.{foreignToWip}
 use Rattle.record.proofs.PartLaws.{whole-pages}
-use Rattle.form.specs.Table.{partIn, registerIn, startupBy, startupLimit, watchdogBy, watchdogLimit, markBy, markLimit, kindBy, kindLimit, caseGood, valueLimit, targetLimit, leftBy, leftLimit, Row, span, Good, rows, partRow, registerRow, sramRow, dividerRow, startupRow, watchdogRow, delayRow, pulseRow, powerRow, markRow, welRow, protectionRow, lockRow, stageRow, offsetsRow, loadRow, nextRow, targetRow, leftRow, eepromRow, idRow}
-use Rattle.form.specs.Chip.{IsChip}
-use Rattle.form.specs.Facts.{Facts}
+use Rattle.form.specs.Table.{partIn, registerIn, startupBy, startupLimit, watchdogBy, watchdogLimit, markBy, markLimit, kindBy, kindLimit, caseGood, valueLimit, targetLimit, leftBy, leftLimit, Row, span, Good, goodTest, recordRows, memoryRows, rows, partRow, registerRow, sramRow, dividerRow, startupRow, watchdogRow, delayRow, pulseRow, powerRow, markRow, welRow, protectionRow, lockRow, stageRow, offsetsRow, loadRow, nextRow, targetRow, leftRow, eepromRow, idRow}
+use Rattle.form.specs.Chip.{IsChip, isRecord}
+use Rattle.form.specs.Facts.{RecordFacts, Facts}
 
 -- one place, two, three
 one-place : (P : ℕ → Type 0) → P 0 → (j : ℕ) → j < 1 → P j
@@ -39,11 +40,28 @@ three-places P p q r (suc (suc zero)) h = r
 three-places P p q r (suc (suc (suc j))) h = absurd (not-suc-le-zero (le-of-suc-le-suc (le-of-suc-le-suc (le-of-suc-le-suc h))))
 
 -- places of a list that is long enough
-reaches : (n m : ℕ) → n ≡ 123 + m + 16 → (k : ℕ) → leb k 123 ≡ true → k ≤ n
-reaches n m e k t = omega (arith, leb-true k 123 t)
+reaches : (n : ℕ) → 123 ≤ n → (k : ℕ) → leb k 123 ≡ true → k ≤ n
+reaches n h k t = omega (arith, leb-true k 123 t)
 
 reaches-eeprom : (n m : ℕ) → n ≡ 123 + m + 16 → 123 + m ≤ n
 reaches-eeprom n m e = omega arith
+
+-- Good numbers are those that pass the test.
+pub good-test : (rs : List Row) (k : ℕ) (ns : List ℕ) → Good rs k ns → goodTest rs k ns ≡ true
+unfolding Good goodTest
+good-test [] k ns e = eq-eqb (length ns) k e
+good-test (r ∷ rs) k ns g =
+    both-true (le-leb (k + span r (take k ns)) (length ns) (g .0))
+    (both-true (every-all (λ j. r .good (take (k + j) ns) j (getD ns (k + j) 0)) (span r (take k ns)) (g .1)) (good-test rs (k + span r (take k ns)) ns (g .2)))
+
+pub test-good : (rs : List Row) (k : ℕ) (ns : List ℕ) → goodTest rs k ns ≡ true → Good rs k ns
+unfolding Good goodTest
+test-good [] k ns t = eqb-true (length ns) k t
+test-good (r ∷ rs) k ns t =
+    let s = span r (take k ns) in
+    let each : ℕ → Bool = λ j. r .good (take (k + j) ns) j (getD ns (k + j) 0) in
+    let rest = both-right (leb (k + s) (length ns)) (every each s && goodTest rs (k + s) ns) t in
+    (leb-true (k + s) (length ns) (both-left (leb (k + s) (length ns)) (every each s && goodTest rs (k + s) ns) t), every-at each s (both-left (every each s) (goodTest rs (k + s) ns) rest), test-good rs (k + s) ns (both-right (every each s) (goodTest rs (k + s) ns) rest))
 
 -- What the numbers before a place tell is what the whole list tells.
 module _ (ns : List ℕ) where
@@ -106,11 +124,11 @@ module _ (ns : List ℕ) where
   which-before : caseGood (getD ns 107 0) (getD ns 108 0) ≡ true → caseGood (getD (take 108 ns) 107 0) (getD ns 108 0) ≡ true
   which-before e = ap (λ (k : ℕ). caseGood k (getD ns 108 0)) (getD-take 108 ns 107 0 (omega arith)) ∙ e
 
-  pub facts-good : Facts ns → IsChip ns
-  unfolding places rows partRow registerRow sramRow dividerRow startupRow watchdogRow delayRow pulseRow powerRow markRow welRow protectionRow lockRow stageRow offsetsRow loadRow nextRow targetRow leftRow eepromRow idRow
-  facts-good f =
-      let size = sizeOf (partIn ns) in
-      let reach : (k : ℕ) → leb k 123 ≡ true → k ≤ length ns = reaches (length ns) size (f .long) in
+  -- the rows of part and record before others, and taken off
+  record-before : (rs : List Row) → RecordFacts ns → Good rs 123 ns → Good (recordRows ++ rs) 0 ns
+  unfolding places partRow registerRow sramRow dividerRow startupRow watchdogRow delayRow pulseRow powerRow markRow welRow protectionRow lockRow stageRow offsetsRow loadRow nextRow targetRow leftRow
+  record-before rs f g =
+      let reach : (k : ℕ) → leb k 123 ≡ true → k ≤ length ns = reaches (length ns) (f .reach) in
       before partRow _ 0 1 refl (reach 1 refl) (one-place _ (f .part))
       (before registerRow _ 1 32 refl (reach 33 refl) (λ j h. both-true (lt-ltb _ _ (f .regBytes j h)) (eq-eqb _ _ (f .regs j h)))
       (before sramRow _ 33 64 refl (reach 97 refl) (λ j h. lt-ltb _ _ (f .sram j h))
@@ -129,9 +147,15 @@ module _ (ns : List ℕ) where
       (before loadRow _ 111 8 refl (reach 119 refl) (λ j h. lt-ltb _ _ (f .load j h))
       (before nextRow _ 119 1 refl (reach 120 refl) (one-place _ (lt-ltb _ _ (f .next)))
       (before targetRow _ 120 2 refl (reach 122 refl) (two-places _ (lt-ltb _ _ (f .target)) (within (sym target-told) (f .place)))
-      (before leftRow _ 122 1 refl (reach 123 refl) (one-place _ (within (sym left-told) (f .left)))
+      (before leftRow _ 122 1 refl (reach 123 refl) (one-place _ (within (sym left-told) (f .left))) g))))))))))))))))))
+
+  pub facts-good : Facts ns → IsChip ns
+  unfolding places rows eepromRow idRow
+  facts-good f =
+      let size = sizeOf (partIn ns) in
+      record-before memoryRows (f .first)
       (before eepromRow _ 123 size pages-told (reaches-eeprom (length ns) size (f .long)) (λ j h. lt-ltb _ _ (f .eeprom j h))
-      (before idRow _ (123 + size) 16 refl (le-of-eq (sym (f .long))) (λ j h. lt-ltb _ _ (f .id j h)) (ended (f .long))))))))))))))))))))))
+      (before idRow _ (123 + size) 16 refl (le-of-eq (sym (f .long))) (λ j h. lt-ltb _ _ (f .id j h)) (ended (f .long))))
 
   -- the other way
   below : {n m k : ℕ} → m ≡ k → ltb n m ≡ true → n < k
@@ -141,10 +165,9 @@ module _ (ns : List ℕ) where
   unfolding Good
   is-end g = g
 
-  pub good-facts : IsChip ns → Facts ns
-  unfolding places rows partRow registerRow sramRow dividerRow startupRow watchdogRow delayRow pulseRow powerRow markRow welRow protectionRow lockRow stageRow offsetsRow loadRow nextRow targetRow leftRow eepromRow idRow
-  good-facts g =
-      let size = sizeOf (partIn ns) in
+  record-off : (rs : List Row) → Good (recordRows ++ rs) 0 ns → RecordFacts ns × Good rs 123 ns
+  unfolding places partRow registerRow sramRow dividerRow startupRow watchdogRow delayRow pulseRow powerRow markRow welRow protectionRow lockRow stageRow offsetsRow loadRow nextRow targetRow leftRow
+  record-off rs g =
       let isByte : ℕ → Bool = λ j. ltb (registerIn ns j) 256 in
       let inside : ℕ → Bool = λ j. eqb (bitAnd (registerIn ns j) (getD kept j 0)) (registerIn ns j) in
       let g-part = off partRow _ 0 1 refl g in
@@ -165,34 +188,56 @@ module _ (ns : List ℕ) where
       let g-load = off loadRow _ 111 8 refl (g-offsets .2) in
       let g-next = off nextRow _ 119 1 refl (g-load .2) in
       let g-target = off targetRow _ 120 2 refl (g-next .2) in
-      let g-left = off leftRow _ 122 1 refl (g-target .2) in
-      let g-eeprom = off eepromRow _ 123 size pages-told (g-left .2) in
-      let g-id = off idRow _ (123 + size) 16 refl (g-eeprom .2) in
+      let g-left = off leftRow _ 122 1 refl (g-target .2) in (
+        record {
+          reach = g-left .0;
+          part = g-part .1 0 (ltb-true 0 1 refl);
+          regBytes = λ j h. ltb-true _ _ (both-left (isByte j) (inside j) (g-register .1 j h));
+          regs = λ j h. eqb-true _ _ (both-right (isByte j) (inside j) (g-register .1 j h));
+          sram = λ j h. ltb-true _ _ (g-sram .1 j h);
+          divider = ltb-true _ _ (g-divider .1 0 (ltb-true 0 1 refl));
+          startup = below startup-told (g-startup .1 0 (ltb-true 0 1 refl));
+          watchdog = below watchdog-told (g-watchdog .1 0 (ltb-true 0 1 refl));
+          delay = ltb-true _ _ (g-delay .1 0 (ltb-true 0 1 refl));
+          pulse = ltb-true _ _ (g-pulse .1 0 (ltb-true 0 1 refl));
+          power = ltb-true _ _ (g-power .1 0 (ltb-true 0 1 refl));
+          mark = below mark-told (g-mark .1 0 (ltb-true 0 1 refl));
+          wel = ltb-true _ _ (g-wel .1 0 (ltb-true 0 1 refl));
+          protection = ltb-true _ _ (g-protection .1 0 (ltb-true 0 1 refl));
+          lock = ltb-true _ _ (g-lock .1 0 (ltb-true 0 1 refl));
+          kind = below kind-told (g-stage .1 0 (ltb-true 0 3 refl));
+          which = ap (λ (k : ℕ). caseGood k (getD ns 108 0)) (sym (getD-take 108 ns 107 0 (ltb-true 107 108 refl))) ∙ g-stage .1 1 (ltb-true 1 3 refl);
+          value = below value-told (g-stage .1 2 (ltb-true 2 3 refl));
+          offsets = ltb-true _ _ (g-offsets .1 0 (ltb-true 0 1 refl));
+          load = λ j h. ltb-true _ _ (g-load .1 j h);
+          next = ltb-true _ _ (g-next .1 0 (ltb-true 0 1 refl));
+          target = ltb-true _ _ (g-target .1 0 (ltb-true 0 2 refl));
+          place = below target-told (g-target .1 1 (ltb-true 1 2 refl));
+          left = below left-told (g-left .1 0 (ltb-true 0 1 refl));
+        },
+        g-left .2,
+      )
+
+  pub good-facts : IsChip ns → Facts ns
+  unfolding places rows eepromRow idRow
+  good-facts g =
+      let g-record = record-off memoryRows g in
+      let g-eeprom = off eepromRow _ 123 (sizeOf (partIn ns)) pages-told (g-record .1) in
+      let g-id = off idRow _ (123 + sizeOf (partIn ns)) 16 refl (g-eeprom .2) in
       record {
+        first = g-record .0;
         long = is-end (g-id .2);
-        part = g-part .1 0 (ltb-true 0 1 refl);
-        regBytes = λ j h. ltb-true _ _ (both-left (isByte j) (inside j) (g-register .1 j h));
-        regs = λ j h. eqb-true _ _ (both-right (isByte j) (inside j) (g-register .1 j h));
-        sram = λ j h. ltb-true _ _ (g-sram .1 j h);
-        divider = ltb-true _ _ (g-divider .1 0 (ltb-true 0 1 refl));
-        startup = below startup-told (g-startup .1 0 (ltb-true 0 1 refl));
-        watchdog = below watchdog-told (g-watchdog .1 0 (ltb-true 0 1 refl));
-        delay = ltb-true _ _ (g-delay .1 0 (ltb-true 0 1 refl));
-        pulse = ltb-true _ _ (g-pulse .1 0 (ltb-true 0 1 refl));
-        power = ltb-true _ _ (g-power .1 0 (ltb-true 0 1 refl));
-        mark = below mark-told (g-mark .1 0 (ltb-true 0 1 refl));
-        wel = ltb-true _ _ (g-wel .1 0 (ltb-true 0 1 refl));
-        protection = ltb-true _ _ (g-protection .1 0 (ltb-true 0 1 refl));
-        lock = ltb-true _ _ (g-lock .1 0 (ltb-true 0 1 refl));
-        kind = below kind-told (g-stage .1 0 (ltb-true 0 3 refl));
-        which = ap (λ (k : ℕ). caseGood k (getD ns 108 0)) (sym (getD-take 108 ns 107 0 (ltb-true 107 108 refl))) ∙ g-stage .1 1 (ltb-true 1 3 refl);
-        value = below value-told (g-stage .1 2 (ltb-true 2 3 refl));
-        offsets = ltb-true _ _ (g-offsets .1 0 (ltb-true 0 1 refl));
-        load = λ j h. ltb-true _ _ (g-load .1 j h);
-        next = ltb-true _ _ (g-next .1 0 (ltb-true 0 1 refl));
-        target = ltb-true _ _ (g-target .1 0 (ltb-true 0 2 refl));
-        place = below target-told (g-target .1 1 (ltb-true 1 2 refl));
-        left = below left-told (g-left .1 0 (ltb-true 0 1 refl));
         eeprom = λ j h. ltb-true _ _ (g-eeprom .1 j h);
         id = λ j h. ltb-true _ _ (g-id .1 j h);
       }
+
+  -- a list of part and record alone
+  pub facts-recorded : RecordFacts ns → length ns ≡ 123 → isRecord ns ≡ true
+  unfolding isRecord
+  facts-recorded f e = good-test recordRows 0 ns (record-before [] f (ended e))
+
+  pub recorded-facts : isRecord ns ≡ true → RecordFacts ns × (length ns ≡ 123)
+  unfolding isRecord
+  recorded-facts t =
+      let p = record-off [] (test-good recordRows 0 ns t) in
+      (p .0, is-end (p .1))

@@ -4,5 +4,6 @@ pub mod TableLaws
 pub mod FactLaws
 pub mod StageLaws
 pub mod ChipLaws
+pub mod StateLaws
 pub mod LiveLaws
 pub mod SavedLaws

@@ -2,7 +2,7 @@
 -- Assumes nothing.
 use Prim.Native.Nat.{ℕ, _+_, _<_}
 use mathlib.Core.Path.{_≡_}
-use mathlib.Core.Bool.{true}
+use mathlib.Core.Bool.{Bool, true}
 use mathlib.Core.List.{List, [], _∷_, _++_}
 use lib.Dec.{eqb}
 use lib.ListN.{take, drop, getD}
@@ -15,9 +15,9 @@ use Rattle.record.specs.declared.Cycle.{Cycle}
 use Rattle.record.specs.declared.Stage.{Stage}
 use Rattle.record.specs.Numbers.{protectionNumber, protectionOf, lockNumber, lockOf, stageKind, stageCase, stageValue, targetKind, targetValue, targetOf}
 use Rattle.record.specs.Part.{isPart, sizeOf, idSize}
-use Rattle.record.specs.World.{World, world, Shaped}
+use Rattle.record.specs.World.{World, world, Sized, Shaped}
 use Rattle.refusals.specs.InRange.{InRange}
-use Rattle.form.specs.Table.{rows, partIn, powerIn, stageIn, Good, textFrom}
+use Rattle.form.specs.Table.{recordRows, rows, partIn, powerIn, stageIn, Good, goodTest, textFrom}
 
 -- S1. The numbers of a record between SRAM and page load, and after it.
 abbrev pub countNumbers : Counters → List ℕ
@@ -41,14 +41,18 @@ tailNumbers l y = l .next ∷ targetKind (y .target) ∷ targetValue (y .target)
 abbrev pub recordNumbers : Device → List ℕ
 recordNumbers d = (d .regs ++ d .sram) ++ headNumbers d ++ (d .load .bytes ++ tailNumbers (d .load) (d .cycle))
 
--- S1. All of them: the part; registers, SRAM and the rest of the record; the memories.
+-- S1. All of them: the part; registers, SRAM and the rest of the record; and what stands behind them.
+abbrev pub numbersBefore : ℕ → Device → List ℕ → List ℕ
+numbersBefore part d rest =
+    part ∷ (d .regs ++ (d .sram ++ (headNumbers d ++ (d .load .bytes ++ (tailNumbers (d .load) (d .cycle) ++ rest)))))
+
+-- S1. behind them stand the memories
 unfoldable pub numbersOf : ℕ → World → List ℕ
-numbersOf part w =
-    part
-    ∷ (w .device .regs
-    ++ (w .device .sram
-    ++ (headNumbers (w .device)
-    ++ (w .device .load .bytes ++ (tailNumbers (w .device .load) (w .device .cycle) ++ (w .eeprom ++ w .id))))))
+numbersOf part w = numbersBefore part (w .device) (w .eeprom ++ w .id)
+
+-- I1. nothing stands behind them
+unfoldable pub stateNumbers : ℕ → Device → List ℕ
+stateNumbers part d = numbersBefore part d []
 
 -- S8. The chip of a list of numbers; its part is the first.
 abbrev pub deviceOf : List ℕ → Device
@@ -72,6 +76,10 @@ worldOf ns = world (deviceOf ns) (take (sizeOf (partIn ns)) (drop 123 ns)) (take
 abbrev pub IsChip : List ℕ → Type 0
 IsChip ns = Good rows 0 ns
 
+-- S7, I1. and one that it has for part and record alone
+unfoldable pub isRecord : List ℕ → Bool
+isRecord ns = goodTest recordRows 0 ns
+
 -- S2. the saved text of a list of numbers, and of a chip
 unfoldable pub formText : List ℕ → List ℕ
 formText ns = textFrom rows 0 ns
@@ -86,3 +94,10 @@ pub record Sound (part : ℕ) (w : World) : Type 0 where
   pub range : InRange part (w .device)
   pub shaped : Shaped part w
   pub carried : stageValue (w .device .frame .stage) < 256
+
+-- I1. The same of part and record alone.
+pub record SoundRecord (part : ℕ) (d : Device) : Type 0 where
+  pub named : isPart part ≡ true
+  pub range : InRange part d
+  pub sized : Sized d
+  pub carried : stageValue (d .frame .stage) < 256

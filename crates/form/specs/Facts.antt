@@ -1,6 +1,6 @@
 -- What the table says of a list of numbers, place by place, as the facts that a proof uses. Not the table: FactLaws ties the two.
 -- Assumes nothing.
-use Prim.Native.Nat.{ℕ, _+_, _<_}
+use Prim.Native.Nat.{ℕ, _+_, _<_, _≤_}
 use mathlib.Core.Path.{_≡_}
 use mathlib.Core.Bool.{true}
 use mathlib.Core.List.{List}
@@ -14,8 +14,9 @@ use Rattle.form.specs.Table.{partIn, registerIn, startupLimit, watchdogL
 abbrev pub BytesFrom : List ℕ → ℕ → ℕ → Type 0
 BytesFrom ns k n = (j : ℕ) → j < n → getD ns (k + j) 0 < 256
 
-pub record Facts (ns : List ℕ) : Type 0 where
-  pub long : length ns ≡ 123 + sizeOf (partIn ns) + idSize
+-- of the part and the record, whatever stands behind them
+pub record RecordFacts (ns : List ℕ) : Type 0 where
+  pub reach : 123 ≤ length ns
   pub part : isPart (partIn ns) ≡ true
   pub regBytes : BytesFrom ns 1 32
   pub regs : (j : ℕ) → j < 32 → bitAnd (registerIn ns j) (getD kept j 0) ≡ registerIn ns j
@@ -39,5 +40,10 @@ pub record Facts (ns : List ℕ) : Type 0 where
   pub target : getD ns 120 0 < 3
   pub place : getD ns 121 0 < targetLimit (sizeOf (partIn ns)) (getD ns 120 0)
   pub left : getD ns 122 0 < leftLimit ns
+
+-- of a whole list
+pub record Facts (ns : List ℕ) : Type 0 where
+  pub first : RecordFacts ns
+  pub long : length ns ≡ 123 + sizeOf (partIn ns) + idSize
   pub eeprom : BytesFrom ns 123 (sizeOf (partIn ns))
   pub id : BytesFrom ns (123 + sizeOf (partIn ns)) idSize

@@ -2,6 +2,7 @@ pub mod Lines
 pub mod Form
 pub mod Table
 pub mod Chip
+pub mod State
 pub mod Facts
 pub mod Save
 pub mod Claim

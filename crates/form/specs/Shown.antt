@@ -24,6 +24,7 @@ use Rattle.text.specs.Decimal.{textWithin, decimalText, valueFrom}
 use Rattle.form.specs.Lines.{followed, numbersText, lineText, numbersIn, readLine, linesIn}
 use Rattle.form.specs.Form.{bad, judged, load}
 use Rattle.form.specs.Table.{rows, rowText, textFrom, goodAfter, lineGood, rowForm, formFrom, chipForm, partRow, registerRow, sramRow, dividerRow, startupRow, watchdogRow, delayRow, pulseRow, powerRow, markRow, welRow, protectionRow, lockRow, stageRow, offsetsRow, loadRow, nextRow, targetRow, leftRow, eepromRow, idRow}
+use Rattle.form.specs.State.{arrayNumbers, countsBytes, frameBytes, stateOf}
 use Rattle.form.specs.Chip.{stageNumbers, headNumbers, tailNumbers, numbersOf, formText, savedText}
 
 -- lines, a newline after each
@@ -85,6 +86,17 @@ NumbersShown =
     × (targetKind (Eeprom (record { 0 = 200 })) ∷ targetValue (Eeprom (record { 0 = 200 })) ∷ [] ≡ 0 ∷ 200 ∷ [])
     × (targetKind (Status All) ∷ targetValue (Status All) ∷ [] ≡ 2 ∷ 3 ∷ [])
 
+-- I1. State arrays: a fresh part 2, and the counts of a chip at work, the least significant byte first.
+pub ArraysShown : Type 0
+ArraysShown =
+    (stateOf 2 fresh ≡ 2 ∷ 0 ∷ 0 ∷ 0 ∷ 0 ∷ 1 ∷ 1 ∷ 1 ∷ (replicate 25 0 ++ (replicate 64 0 ++ (replicate 15 0 ++ (1 ∷ replicate 20 0)))))
+    × (countsBytes (record { divider = 0x1234; startup = 32; watchdog = 0x0a0b0c; delay = 2097152; pulse = 4096 })
+    ≡ 0x34 ∷ 0x12 ∷ 0 ∷ 32 ∷ 0 ∷ 0 ∷ 0x0c ∷ 0x0b ∷ 0x0a ∷ 0 ∷ 0 ∷ 0x20 ∷ 0 ∷ 0x10 ∷ 0 ∷ [])
+    -- power, mark, WEL, BP, lock, stage, offsets
+    × (frameBytes atWork ≡ 1 ∷ 0 ∷ 1 ∷ 2 ∷ 1 ∷ 4 ∷ 1 ∷ 95 ∷ 129 ∷ [])
+    × (length (stateOf 1 atWork) ≡ 133)
+    × (numbersOf 1 (freshWorld 1) ≡ arrayNumbers (stateOf 1 fresh) ++ (freshWorld 1 .eeprom ++ freshWorld 1 .id))
+
 -- S8. The first bad line of short texts.
 abbrev pub judges : List ℕ → ℕ → Type 0
 judges text n = load chipForm text ≡ bad n
@@ -115,6 +127,10 @@ fresh-shown = (refl, refl, refl)
 pub numbers-shown : NumbersShown
 unfolding NumbersShown
 numbers-shown = (refl, refl, refl, refl, refl, refl, refl, refl, refl, refl, refl, refl, refl, refl)
+
+pub arrays-shown : ArraysShown
+unfolding ArraysShown fresh stateOf arrayNumbers numbersOf
+arrays-shown = (refl, refl, refl, refl, refl)
 
 pub bad-shown : BadShown
 unfolding BadShown load judged chipForm formFrom rowForm rows partRow registerRow lineGood goodAfter readLine numbersIn linesIn agreed decimalText textWithin valueFrom

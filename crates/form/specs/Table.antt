@@ -6,10 +6,10 @@ use Prim.Native.String.{String}
 use mathlib.Core.Path.{_≡_}
 use mathlib.Core.Bool.{Bool, true, false, not, _&&_, _||_}
 use mathlib.Core.List.{List, [], _∷_, _++_}
-use lib.Dec.{ltb, eqb}
+use lib.Dec.{ltb, leb, eqb}
 use lib.Bits.{bitAnd}
 use lib.ListN.{length, take, drop, getD}
-use Rattle.base.specs.Words.{pick, bit}
+use Rattle.base.specs.Words.{pick, bit, every}
 use Rattle.record.specs.declared.Stage.{Stage}
 use Rattle.record.specs.Codes.{codeOf, codeNumber}
 use Rattle.record.specs.Numbers.{stageOf}
@@ -185,10 +185,17 @@ eepromRow = memoryRow "ee" (λ b. sizeOf (partIn b) / 8)
 unfoldable pub idRow : Row
 idRow = memoryRow "id" (λ b. 2)
 
-unfoldable pub rows : List Row
-rows =
+-- S1. those of part and record, and those of the memories
+abbrev pub recordRows : List Row
+recordRows =
     partRow ∷ registerRow ∷ sramRow ∷ dividerRow ∷ startupRow ∷ watchdogRow ∷ delayRow ∷ pulseRow ∷ powerRow ∷ markRow ∷ welRow ∷ protectionRow ∷ lockRow
-    ∷ stageRow ∷ offsetsRow ∷ loadRow ∷ nextRow ∷ targetRow ∷ leftRow ∷ eepromRow ∷ idRow ∷ []
+    ∷ stageRow ∷ offsetsRow ∷ loadRow ∷ nextRow ∷ targetRow ∷ leftRow ∷ []
+
+abbrev pub memoryRows : List Row
+memoryRows = eepromRow ∷ idRow ∷ []
+
+unfoldable pub rows : List Row
+rows = recordRows ++ memoryRows
 
 -- S2. the key of line i of a row
 abbrev pub keyOf : Row → ℕ → List ℕ
@@ -205,6 +212,13 @@ Good (r ∷ rs) k ns =
     (k + span r (take k ns) ≤ length ns)
     × ((j : ℕ) → j < span r (take k ns) → r .good (take (k + j) ns) j (getD ns (k + j) 0) ≡ true)
     × Good rs (k + span r (take k ns)) ns
+
+-- S7. The same as a test.
+unfoldable pub goodTest : List Row → ℕ → List ℕ → Bool
+goodTest [] k ns = eqb (length ns) k
+goodTest (r ∷ rs) k ns =
+    leb (k + span r (take k ns)) (length ns)
+    && (every (λ j. r .good (take (k + j) ns) j (getD ns (k + j) 0)) (span r (take k ns)) && goodTest rs (k + span r (take k ns)) ns)
 
 -- The text of numbers from place k on: line i of a row, n lines of it, and all rows.
 abbrev pub numbersAt : Row → ℕ → List ℕ → List ℕ

@@ -1,4 +1,4 @@
--- What code needs of a list of numbers that the table has for a chip: how long it is, and which field each number fits; and the list put together.
+-- What code needs of a list that begins with the numbers of part and record: how long it is, and which field each number fits; and the list put together.
 -- Assumes nothing.
 use mathlib.Core.Path.{_≡_, refl, sym, ap, subst, _∙_}
 use mathlib.Core.Bool.{true, false, not, _&&_, _||_}
@@ -22,17 +22,13 @@ use Rattle.record.proofs.PeriodLaws.{period-most}
 use Rattle.form.specs.Table.{partIn, registerIn, powerIn, stageIn, caseLimit}
 use Rattle.record.specs.declared.Device.{Device}
 use Rattle.record.specs.World.{world}
-use Rattle.form.specs.Chip.{headNumbers, tailNumbers, recordNumbers, numbersOf, IsChip}
-use Rattle.form.specs.Facts.{BytesFrom}
-use Rattle.form.proofs.FactLaws.{good-facts}
+use Rattle.form.specs.Chip.{headNumbers, tailNumbers, recordNumbers, numbersOf}
+use Rattle.form.specs.Facts.{BytesFrom, RecordFacts}
 use Rattle.numbers.proofs.TableLaws.{case-limit-past}
 
 -- every number of the record is there
-pub reach : (ns : List ℕ) → IsChip ns → 123 < length ns
-reach ns g = past (length ns) (sizeOf (partIn ns)) (good-facts ns g .long)
-  where
-    past : (n m : ℕ) → n ≡ 123 + m + 16 → 123 < n
-    past n m e = omega arith
+pub reach : (ns : List ℕ) → RecordFacts ns → 123 ≤ length ns
+reach ns f = f .reach
 
 -- the field that each number fits
 pub record Fields (ns : List ℕ) : Type 0 where
@@ -76,9 +72,8 @@ case-low k =
     below : {n : ℕ} → n < 257 → n ≤ 256
     below h = omega (arith, h)
 
-pub fields : (ns : List ℕ) → IsChip ns → Fields ns
-fields ns g =
-    let f = good-facts ns g in
+pub fields : (ns : List ℕ) → RecordFacts ns → Fields ns
+fields ns f =
     let k = getD ns 107 0 in
     let w = getD ns 108 0 in
     let s = size-most (partIn ns) in
@@ -141,20 +136,20 @@ numbers-joined part d ee id = ap (λ (l : List ℕ). part ∷ l) (pieces (d .reg
         ∙ ap (λ (x : List ℕ). r ++ (s ++ (h ++ x))) (append-assoc l t m)
 
 -- bytes of the record
-pub registers-there : (ns : List ℕ) → IsChip ns → (1 + 32 ≤ length ns) × BytesFrom ns 1 32
-registers-there ns g = (far-enough (reach ns g), good-facts ns g .regBytes)
+pub registers-there : (ns : List ℕ) → RecordFacts ns → (1 + 32 ≤ length ns) × BytesFrom ns 1 32
+registers-there ns f = (far-enough (f .reach), f .regBytes)
   where
-    far-enough : {n : ℕ} → 123 < n → 33 ≤ n
+    far-enough : {n : ℕ} → 123 ≤ n → 33 ≤ n
     far-enough h = omega (arith, h)
 
-pub sram-there : (ns : List ℕ) → IsChip ns → (33 + 64 ≤ length ns) × BytesFrom ns 33 64
-sram-there ns g = (far-enough (reach ns g), good-facts ns g .sram)
+pub sram-there : (ns : List ℕ) → RecordFacts ns → (33 + 64 ≤ length ns) × BytesFrom ns 33 64
+sram-there ns f = (far-enough (f .reach), f .sram)
   where
-    far-enough : {n : ℕ} → 123 < n → 97 ≤ n
+    far-enough : {n : ℕ} → 123 ≤ n → 97 ≤ n
     far-enough h = omega (arith, h)
 
-pub load-there : (ns : List ℕ) → IsChip ns → (111 + 8 ≤ length ns) × BytesFrom ns 111 8
-load-there ns g = (far-enough (reach ns g), good-facts ns g .load)
+pub load-there : (ns : List ℕ) → RecordFacts ns → (111 + 8 ≤ length ns) × BytesFrom ns 111 8
+load-there ns f = (far-enough (f .reach), f .load)
   where
-    far-enough : {n : ℕ} → 123 < n → 119 ≤ n
+    far-enough : {n : ℕ} → 123 ≤ n → 119 ≤ n
     far-enough h = omega (arith, h)

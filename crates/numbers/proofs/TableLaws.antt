@@ -24,7 +24,7 @@ use Rattle.record.specs.Numbers.{placeOf, pairOf, stageOf}
 use Rattle.record.specs.Part.{isPart, sizeOf, bootsOf}
 use Rattle.record.specs.Registers.{secondsAt, watchdogAt, periods, periodOf}
 use Rattle.record.specs.Stages.{foreignToWip}
-use Rattle.form.specs.Table.{rows, registerGood, partIn, registerIn, powerIn, startupLimit, markLimit, kindLimit, caseLimit, caseGood, valueLimit, targetLimit, leftLimit, stageGood, targetGood, partRow, registerRow, sramRow, dividerRow, startupRow, watchdogRow, delayRow, pulseRow, powerRow, markRow, welRow, protectionRow, lockRow, stageRow, offsetsRow, loadRow, nextRow, targetRow, leftRow, eepromRow, idRow}
+use Rattle.form.specs.Table.{rows, registerGood, partIn, registerIn, powerIn, startupBy, startupLimit, markLimit, kindLimit, caseLimit, caseGood, valueLimit, targetLimit, leftBy, leftLimit, stageGood, targetGood, partRow, registerRow, sramRow, dividerRow, startupRow, watchdogRow, delayRow, pulseRow, powerRow, markRow, welRow, protectionRow, lockRow, stageRow, offsetsRow, loadRow, nextRow, targetRow, leftRow, eepromRow, idRow}
 use Rattle.numbers.specs.Tables.{rowAt, rowCount}
 
 -- What is constant of each row, as code has it. Numbers on a line;
@@ -140,21 +140,20 @@ unfolding every
 case-limit-at k h = same-below (λ (j : ℕ). getD (1 ∷ 1 ∷ 1 ∷ 256 ∷ 3 ∷ 3 ∷ 4 ∷ 6 ∷ []) j 0) caseLimit 8 refl k h
 
 -- Limits by their tests, as code has them.
-pub startup-open : (b : List ℕ) (t : Bool) → t ≡ bootsOf (partIn b) → (t || bit (registerIn b secondsAt) 7) ≡ true → 33 ≡ startupLimit b
-startup-open b t e h = yes 33 1 (ap (λ (u : Bool). u || bit (registerIn b secondsAt) 7) (sym e) ∙ h)
+pub startup-open : (seconds : ℕ) {t boots : Bool} → t ≡ boots → (t || bit seconds 7) ≡ true → 33 ≡ startupBy boots (bit seconds 7)
+startup-open seconds e h = yes 33 1 (ap (λ (u : Bool). u || bit seconds 7) (sym e) ∙ h)
 
-pub startup-shut : (b : List ℕ) (t : Bool) → t ≡ bootsOf (partIn b) → (t || bit (registerIn b secondsAt) 7) ≡ false → 1 ≡ startupLimit b
-startup-shut b t e h = no 33 1 (ap (λ (u : Bool). u || bit (registerIn b secondsAt) 7) (sym e) ∙ h)
+pub startup-shut : (seconds : ℕ) {t boots : Bool} → t ≡ boots → (t || bit seconds 7) ≡ false → 1 ≡ startupBy boots (bit seconds 7)
+startup-shut seconds e h = no 33 1 (ap (λ (u : Bool). u || bit seconds 7) (sym e) ∙ h)
 
-pub left-open :
-    (b : List ℕ) (t : Bool) → t ≡ foreignToWip (stageOf (getD b 107 0) (getD b 108 0) 0) → (powerIn b && not t) ≡ true → 165 ≡ leftLimit b
-left-open b t e h =
-    yes 165 1 (ap (λ (u : Bool). powerIn b && not u) (sym (e ∙ value-free (getD b 108 0) (getD b 109 0) (getD b 107 0))) ∙ h)
+pub left-open : (power : Bool) {t foreign : Bool} → t ≡ foreign → (power && not t) ≡ true → 165 ≡ leftBy power foreign
+left-open power e h = yes 165 1 (ap (λ (u : Bool). power && not u) (sym e) ∙ h)
 
-pub left-shut :
-    (b : List ℕ) (t : Bool) → t ≡ foreignToWip (stageOf (getD b 107 0) (getD b 108 0) 0) → (powerIn b && not t) ≡ false → 1 ≡ leftLimit b
-left-shut b t e h =
-    no 165 1 (ap (λ (u : Bool). powerIn b && not u) (sym (e ∙ value-free (getD b 108 0) (getD b 109 0) (getD b 107 0))) ∙ h)
+pub left-shut : (power : Bool) {t foreign : Bool} → t ≡ foreign → (power && not t) ≡ false → 1 ≡ leftBy power foreign
+left-shut power e h = no 165 1 (ap (λ (u : Bool). power && not u) (sym e) ∙ h)
+
+pub left-told : (b : List ℕ) → leftBy (powerIn b) (foreignToWip (stageOf (getD b 107 0) (getD b 108 0) 0)) ≡ leftLimit b
+left-told b = ap (leftBy (powerIn b)) (value-free (getD b 108 0) (getD b 109 0) (getD b 107 0))
 
 -- the places of stage and target
 pub stage-kind-at : (b : List ℕ) (j n l : ℕ) → j ≡ 0 → l ≡ kindLimit b → ltb n l ≡ stageGood b j n

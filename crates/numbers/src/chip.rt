@@ -17,8 +17,8 @@ ghost use Rattle.record.specs.Numbers.{stageValue};
 ghost use Rattle.record.specs.World.{world};
 ghost use Rattle.text.specs.Buffer.{buffer, append};
 ghost use Rattle.form.specs.Table.{stageIn};
-ghost use Rattle.form.specs.Chip.{countNumbers, guardNumbers, stageNumbers, headNumbers, tailNumbers, recordNumbers, numbersOf, deviceOf, IsChip};
-ghost use Rattle.form.specs.Facts.{BytesFrom};
+ghost use Rattle.form.specs.Chip.{countNumbers, guardNumbers, stageNumbers, headNumbers, tailNumbers, recordNumbers, numbersOf, deviceOf};
+ghost use Rattle.form.specs.Facts.{BytesFrom, RecordFacts};
 ghost use Rattle.numbers.specs.Tables.{numberLimit};
 
 // The first n numbers of a list; all of them where there are fewer.
@@ -45,7 +45,7 @@ pub fn take_bytes(numbers: &[u64], from: usize, into: &mut [u8])
 }
 
 fn counters_of(numbers: &[u64]) -> Counters
-    requires { ⌜ IsChip (now numbers) ⌝ }
+    requires { ⌜ RecordFacts (now numbers) ⌝ }
     ensures { λ r. ⌜ r ≡ deviceOf (now (numbers .entry)) .counters ⌝ }
 {
     Counters {
@@ -58,7 +58,7 @@ fn counters_of(numbers: &[u64]) -> Counters
 }
 
 fn guard_of(numbers: &[u64]) -> Guard
-    requires { ⌜ IsChip (now numbers) ⌝ }
+    requires { ⌜ RecordFacts (now numbers) ⌝ }
     ensures { λ r. ⌜ r ≡ deviceOf (now (numbers .entry)) .guard ⌝ }
 {
     let protection = record::number::protection_of(numbers[105] as u8);
@@ -71,14 +71,14 @@ fn guard_of(numbers: &[u64]) -> Guard
 }
 
 fn stage_at(numbers: &[u64]) -> Stage
-    requires { ⌜ IsChip (now numbers) ⌝ }
+    requires { ⌜ RecordFacts (now numbers) ⌝ }
     ensures { λ r. ⌜ r ≡ stageIn (now (numbers .entry)) ⌝ }
 {
     crate::stage_of(numbers[107] as u8, numbers[108] as u8, numbers[109] as u8)
 }
 
 fn load_of(numbers: &[u64]) -> Load
-    requires { ⌜ IsChip (now numbers) ⌝ }
+    requires { ⌜ RecordFacts (now numbers) ⌝ }
     ensures { λ r. ⌜ r ≡ deviceOf (now (numbers .entry)) .load ⌝ }
 {
     let mut bytes = [0u8; 8];
@@ -91,7 +91,7 @@ fn load_of(numbers: &[u64]) -> Load
 }
 
 fn cycle_of(numbers: &[u64]) -> Cycle
-    requires { ⌜ IsChip (now numbers) ⌝ }
+    requires { ⌜ RecordFacts (now numbers) ⌝ }
     ensures { λ r. ⌜ r ≡ deviceOf (now (numbers .entry)) .cycle ⌝ }
 {
     let target = crate::target_of(numbers[120] as u8, numbers[121] as u8);
@@ -102,7 +102,7 @@ fn cycle_of(numbers: &[u64]) -> Cycle
 }
 
 fn registers_of(numbers: &[u64]) -> [u8; 32]
-    requires { ⌜ IsChip (now numbers) ⌝ }
+    requires { ⌜ RecordFacts (now numbers) ⌝ }
     ensures { λ r. ⌜ r ≡ take 32 (drop 1 (now (numbers .entry))) ⌝ }
 {
     let mut regs = [0u8; 32];
@@ -111,7 +111,7 @@ fn registers_of(numbers: &[u64]) -> [u8; 32]
 }
 
 fn sram_of(numbers: &[u64]) -> [u8; 64]
-    requires { ⌜ IsChip (now numbers) ⌝ }
+    requires { ⌜ RecordFacts (now numbers) ⌝ }
     ensures { λ r. ⌜ r ≡ take 64 (drop 33 (now (numbers .entry))) ⌝ }
 {
     let mut sram = [0u8; 64];
@@ -119,9 +119,9 @@ fn sram_of(numbers: &[u64]) -> [u8; 64]
     sram
 }
 
-// The record of a list that the table has for a chip.
+// The record of a list that begins with the numbers of one.
 pub fn device_of(numbers: &[u64]) -> Device
-    requires { ⌜ IsChip (now numbers) ⌝ }
+    requires { ⌜ RecordFacts (now numbers) ⌝ }
     ensures { λ r. ⌜ r ≡ deviceOf (now (numbers .entry)) ⌝ }
 {
     let regs = registers_of(numbers);

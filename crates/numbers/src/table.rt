@@ -8,11 +8,12 @@ ghost use Prim.Native.Nat.{_<_};
 ghost use mathlib.Core.List.{[], _∷_};
 ghost use lib.Dec.{ltb, eqb};
 ghost use lib.ListN.{length};
-ghost use Rattle.base.specs.Words.{pick};
+ghost use Rattle.base.specs.Words.{pick, bit};
+ghost use Rattle.record.specs.Part.{bootsOf};
 ghost use Rattle.record.specs.Registers.{periodOf};
 ghost use Rattle.record.specs.Numbers.{stageOf};
 ghost use Rattle.record.specs.Stages.{foreignToWip};
-ghost use Rattle.form.specs.Table.{registerGood, startupLimit, markBy, kindBy, caseLimit, caseGood, addressLimit, valueLimit, targetLimit, leftLimit, stageGood, targetGood};
+ghost use Rattle.form.specs.Table.{registerGood, startupBy, markBy, kindBy, caseLimit, caseGood, addressLimit, valueLimit, targetLimit, leftBy, stageGood, targetGood};
 ghost use Rattle.numbers.specs.Tables.{rowAt, rowCount, numberLimit};
 
 // How many rows the table has, and how many numbers a part of 2 Kbit.
@@ -131,28 +132,28 @@ fn register_good(j: usize, n: u64) -> bool
     (b & registers::kept_bits(ClockAddress(j as u8))) == b
 }
 
-fn startup_limit(numbers: &[u64]) -> u64
-    requires { ⌜ length (now numbers) ≡ numberLimit ⌝ }
-    ensures { λ r. ⌜ r ≡ startupLimit (now (numbers .entry)) ⌝ }
+// By the part and the byte of 01h.
+pub fn startup_limit(part: u64, seconds: u64) -> u64
+    ensures { λ r. ⌜ r ≡ startupBy (bootsOf part) (bit seconds 7) ⌝ }
 {
-    let runs = part::boots(numbers[0]) | (numbers[2] / 128 % 2 == 1);
+    let runs = part::boots(part) | (seconds / 128 % 2 == 1);
     if runs { 33 } else { 1 }
 }
 
 // By the number of power.
-fn mark_limit(power: u64) -> u64
+pub fn mark_limit(power: u64) -> u64
     ensures { λ r. ⌜ r ≡ markBy (eqb power 1) ⌝ }
 {
     if power == 1 { 1 } else { 2 }
 }
 
-fn kind_limit(power: u64) -> u64
+pub fn kind_limit(power: u64) -> u64
     ensures { λ r. ⌜ r ≡ kindBy (eqb power 1) ⌝ }
 {
     if power == 1 { 8 } else { 1 }
 }
 
-fn period(v: u64) -> u64
+pub fn period(v: u64) -> u64
     ensures { λ r. ⌜ r ≡ periodOf v ⌝ }
 {
     registers::period((v % 8) as u8) as u64
@@ -186,7 +187,7 @@ fn case_limit(kind: u64) -> u64
     1
 }
 
-fn case_good(kind: u64, n: u64) -> bool
+pub fn case_good(kind: u64, n: u64) -> bool
     ensures { λ r. ⌜ r ≡ caseGood kind n ⌝ }
 {
     if case_limit(kind) <= n {
@@ -214,7 +215,7 @@ fn address_limit(size: u64, memory: u64) -> u64
     16
 }
 
-fn value_limit(size: u64, kind: u64, which: u64) -> u64
+pub fn value_limit(size: u64, kind: u64, which: u64) -> u64
     ensures { λ r. ⌜ r ≡ valueLimit size kind which ⌝ }
 {
     if (kind == 4) | (kind == 5) {
@@ -239,7 +240,7 @@ fn stage_good(numbers: &[u64], j: usize, n: u64) -> bool
     n < value_limit(part::size(numbers[0]) as u64, numbers[107], numbers[108])
 }
 
-fn target_limit(size: u64, kind: u64) -> u64
+pub fn target_limit(size: u64, kind: u64) -> u64
     ensures { λ r. ⌜ r ≡ targetLimit size kind ⌝ }
 {
     if kind == 0 {
@@ -261,11 +262,11 @@ fn target_good(numbers: &[u64], j: usize, n: u64) -> bool
     n < target_limit(part::size(numbers[0]) as u64, numbers[120])
 }
 
-fn left_limit(numbers: &[u64]) -> u64
-    requires { ⌜ length (now numbers) ≡ numberLimit ⌝ }
-    ensures { λ r. ⌜ r ≡ leftLimit (now (numbers .entry)) ⌝ }
+// By power, and by the kind and the case of the stage.
+pub fn left_limit(power: u64, kind: u64, which: u64) -> u64
+    ensures { λ r. ⌜ r ≡ leftBy (eqb power 1) (foreignToWip (stageOf kind which 0)) ⌝ }
 {
-    let open = (numbers[102] == 1) & !foreign(numbers[107], numbers[108]);
+    let open = (power == 1) & !foreign(kind, which);
     if open { 165 } else { 1 }
 }
 
@@ -279,12 +280,12 @@ pub fn good(row: usize, numbers: &[u64], j: usize, n: u64) -> bool
     match row {
         0 => part::is_part(n),
         1 => register_good(j, n),
-        4 => n < startup_limit(numbers),
+        4 => n < startup_limit(numbers[0], numbers[2]),
         5 => n < period(numbers[11]),
         9 => n < mark_limit(numbers[102]),
         13 => stage_good(numbers, j, n),
         17 => target_good(numbers, j, n),
-        18 => n < left_limit(numbers),
+        18 => n < left_limit(numbers[102], numbers[107], numbers[108]),
         _ => {
             let limits = LIMITS;
             n < limits[row]

@@ -26,7 +26,7 @@ use Rattle.text.specs.Buffer.{Buffer, buffer, append}
 use Rattle.form.specs.Form.{Loaded, loaded, bad, load}
 use Rattle.form.specs.Table.{partIn, chipForm}
 use Rattle.form.specs.Chip.{headNumbers, tailNumbers, numbersOf, deviceOf, worldOf, IsChip, savedText, Sound}
-use Rattle.form.specs.Facts.{BytesFrom}
+use Rattle.form.specs.Facts.{BytesFrom, RecordFacts}
 use Rattle.form.specs.Save.{saveRefusal, notSaved, written, saves, loading, loadAnswer, loads}
 use Rattle.form.proofs.FactLaws.{good-facts}
 use Rattle.form.proofs.SavedLaws.{loads-text}
@@ -152,6 +152,9 @@ module _ (text : List ℕ) (part : ℕ) (w : World) (m : List ℕ) (at lines cou
 
     pub chip-read : IsChip ns
     chip-read = loads-text text ns whole .0
+
+    pub record-read : RecordFacts ns
+    record-read = good-facts ns chip-read .first
 
     pub load-misfit : wrongLength (partIn ns) (length (w .eeprom)) (length (w .id)) ≡ true → loading 4 0 part w ≡ loads text part w
     unfolding loads

@@ -8,16 +8,16 @@ use Prim.Native.Nat.{ℕ, _+_, _≤_, _<_}
 use lib.ListN.{length, take, drop, getD}
 use Rattle.record.specs.World.{world}
 use Rattle.refusals.specs.Refusal.{wrongLength}
-use Rattle.form.specs.Chip.{deviceOf, IsChip}
-use Rattle.form.specs.Facts.{BytesFrom}
+use Rattle.form.specs.Chip.{deviceOf}
+use Rattle.form.specs.Facts.{BytesFrom, RecordFacts}
 use Rattle.form.specs.Save.{loading}
 use Rattle.numbers.proofs.ChipLaws.{reach}
 use Rattle.saved.specs.Place.{filled}
-use Rattle.saved.proofs.AnswerLaws.{load-bad, load-misfit, load-done, chip-read, eeprom-there, id-there}
+use Rattle.saved.proofs.AnswerLaws.{load-bad, load-misfit, load-done, record-read, eeprom-there, id-there}
 use Rattle.saved.proofs.load.Statement.{statement}
 use Rattle.saved.proofs.load.Tie as tie
 
-past : {n : ℕ} → 123 < n → 0 < n
+past : {n : ℕ} → 123 ≤ n → 0 < n
 past h = omega (arith, h)
 
 read-rows-requires : tie.Need-read-rows-requires
@@ -44,7 +44,7 @@ shared-slice-read-named c =
     let t = r .ensures in
     let f = c .before .first .ensures in
     subst (λ (l : List ℕ). 0 < length l) (sym f)
-    (past (reach _ (chip-read x (a .part) w (r .last .1 .0) (p .at) (p .lines) (r .result .count) (p .stopped) t (c .before .before .before .if1 .left))))
+    (past (reach _ (record-read x (a .part) w (r .last .1 .0) (p .at) (p .lines) (r .result .count) (p .stopped) t (c .before .before .before .if1 .left))))
 
 returns-2 : tie.Need-returns-2
 returns-2 c =
@@ -102,8 +102,8 @@ device-of-requires c κs =
     let p = r .result .place in
     let t = r .ensures in
     let f = c .before .before .before .before .before .before .before .before .before .before .before .first .ensures in
-    subst IsChip (sym f)
-    (chip-read x (a .part) w (r .last .1 .0) (p .at) (p .lines) (r .result .count) (p .stopped) t (c .before .before .before .before .before .before .before .before .before .before .before .before .before .if1 .left))
+    subst RecordFacts (sym f)
+    (record-read x (a .part) w (r .last .1 .0) (p .at) (p .lines) (r .result .count) (p .stopped) t (c .before .before .before .before .before .before .before .before .before .before .before .before .before .if1 .left))
 
 returns-3 : tie.Need-returns-3
 returns-3 c =

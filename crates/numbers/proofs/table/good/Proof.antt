@@ -4,7 +4,7 @@ use borrow.Author.Needs.{needs}
 use native.Mathlib.Omega.{arith}
 use mathlib.Core.Path.{ap, _∙_}
 use lib.Dec.{ltb}
-use Rattle.numbers.proofs.TableLaws.{row-limit, part-good, register-good, startup-good, watchdog-good, mark-good, stage-good, target-good, left-good}
+use Rattle.numbers.proofs.TableLaws.{row-limit, part-good, register-good, startup-good, watchdog-good, mark-good, stage-good, target-good, left-told, left-good}
 use Rattle.numbers.proofs.table.good.Statement.{statement}
 use Rattle.numbers.proofs.table.good.Tie as tie
 
@@ -23,8 +23,8 @@ returns-2 c =
 
 returns-3 : tie.Need-returns-3
 returns-3 c =
-    let a = c .before .before .before .args in
-    ap (ltb (a .n)) (c .startup-limit .ensures) ∙ startup-good (a .row) (a .numbers .now) (a .j) (a .n) (c .before .match .keys3)
+    let a = c .before .before .before .before .before .args in
+    ap (ltb (a .n)) (c .startup-limit .ensures) ∙ startup-good (a .row) (a .numbers .now) (a .j) (a .n) (c .before .before .before .match .keys3)
 
 returns-4 : tie.Need-returns-4
 returns-4 c =
@@ -48,8 +48,9 @@ returns-7 c =
 
 returns-8 : tie.Need-returns-8
 returns-8 c =
-    let a = c .before .before .before .args in
-    ap (ltb (a .n)) (c .left-limit .ensures) ∙ left-good (a .row) (a .numbers .now) (a .j) (a .n) (c .before .match .keys8)
+    let a = c .before .before .before .before .before .before .args in
+    ap (ltb (a .n)) (c .left-limit .ensures ∙ left-told (a .numbers .now))
+    ∙ left-good (a .row) (a .numbers .now) (a .j) (a .n) (c .before .before .before .before .match .keys8)
 
 returns-9 : tie.Need-returns-9
 returns-9 c =
@@ -62,6 +63,4 @@ pub good-spec : {M : Type 1} → statement M
 good-spec =
     tie.close
     (tie.spec
-    (λ c κs. search needs) register-good-requires (λ c κs. search needs) (λ c. search needs) (λ c κs. search needs) (λ c. search needs)
-    (λ c κs. search needs) (λ c κs. search needs) (λ c κs. search needs) (λ c κs. search needs) (λ c. search needs) (λ c. search needs) returns
-    returns-2 returns-3 returns-4 returns-5 returns-6 returns-7 returns-8 returns-9)
+    (λ c κs. search needs) register-good-requires (λ c. search needs) (λ c. search needs) (λ c κs. search needs) (λ c. search needs) (λ c κs. search needs) (λ c. search needs) (λ c κs. search needs) (λ c κs. search needs) (λ c κs. search needs) (λ c. search needs) (λ c. search needs) (λ c. search needs) (λ c κs. search needs) (λ c. search needs) (λ c. search needs) returns returns-2 returns-3 returns-4 returns-5 returns-6 returns-7 returns-8 returns-9)

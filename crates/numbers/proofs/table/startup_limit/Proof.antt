@@ -6,10 +6,10 @@ use Rattle.numbers.proofs.table.startup_limit.Statement.{statement}
 use Rattle.numbers.proofs.table.startup_limit.Tie as tie
 
 returns : tie.Need-returns
-returns c = startup-open (c .before .before .before .before .before .args .numbers .now) _ (c .before .before .boots .ensures) (c .if1 .taken)
+returns c = startup-open (c .before .before .args .seconds) (c .before .boots .ensures) (c .if1 .taken)
 
 returns-2 : tie.Need-returns-2
-returns-2 c = startup-shut (c .before .before .before .before .before .args .numbers .now) _ (c .before .before .boots .ensures) (c .if1 .left)
+returns-2 c = startup-shut (c .before .before .args .seconds) (c .before .boots .ensures) (c .if1 .left)
 
 pub startup-limit-spec : {M : Type 1} → statement M
-startup-limit-spec = tie.close (tie.spec (λ c. search needs) (λ c κs. search needs) (λ c. search needs) returns returns-2)
+startup-limit-spec = tie.close (tie.spec (λ c κs. search needs) returns returns-2)

@@ -9,7 +9,7 @@ use Rattle.text.specs.Buffer.{buffer}
 use Rattle.form.specs.Table.{partIn}
 use Rattle.form.specs.Chip.{formText}
 use Rattle.numbers.specs.Tables.{rowAt}
-use Rattle.numbers.proofs.ChipLaws.{reach}
+use Rattle.form.proofs.FactLaws.{good-facts}
 use Rattle.saved.proofs.PutLaws.{Left, left-none, left-more, left-all, row-there, row-room, lines-of, place-past}
 use Rattle.saved.proofs.LoopLaws.{lines-most, width-most}
 use Rattle.saved.proofs.put.put_rows.Statement.{statement}
@@ -27,7 +27,7 @@ shared-slice-read-part c =
     let a = c .before .before .before .args in
     let h = c .before .before .before .pre in
     let ns = a .numbers .now in
-    let z = reach ns (h .0) in
+    let z = good-facts ns (h .0) .first .reach in
     omega (arith, z)
 
 loop-holds : tie.Need-loop-holds Inv-loop μ-loop

@@ -1,0 +1,3 @@
+pub mod Tests
+pub mod Arrays
+pub mod Shown
