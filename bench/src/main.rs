@@ -1,7 +1,12 @@
-//! The proved chip beside the model: the same acts through both, answers compared, times as ratios.
-use model::chip::{perform, Device};
+//! The proved chip beside the model: the same acts through both, answers compared, times as ratios. With `--compare N FIRST` nothing
+//! is timed, and the acts are random ones.
+mod compare;
+mod library;
+
+use model::chip::{perform, Chip, Device};
 use model::generate::{chip, text_of, Random};
 use model::Act;
+use std::process::ExitCode;
 use std::time::{Duration, Instant};
 
 extern "C" {
@@ -20,18 +25,6 @@ extern "C" {
         eeprom_len: usize,
         id: *mut u8,
         id_len: usize,
-    ) -> u64;
-
-    // crates/export: a saved text loaded and saved again.
-    fn tekuravy_resave(
-        text: *const u8,
-        text_len: usize,
-        eeprom: *mut u8,
-        eeprom_len: usize,
-        id: *mut u8,
-        id_len: usize,
-        into: *mut u8,
-        into_len: usize,
     ) -> u64;
 }
 
@@ -96,12 +89,20 @@ fn modelled(part: u64, codes: &[u8], numbers: &[u64]) -> (Answers, Duration) {
     (a, start.elapsed())
 }
 
+// An argument picks the cases whose name has it.
+fn picked(name: &str) -> bool {
+    std::env::args().nth(1).is_none_or(|word| name.contains(&word))
+}
+
+// The times of both for one of `per`, and their ratio.
+fn tell(name: &str, per: usize, best: [Duration; 2]) {
+    let [proved, model] = best.map(|time| time.as_nanos() as f64 / per as f64);
+    println!("{name}: proved {proved:.2} ns, model {model:.2} ns, ratio {:.3}", proved / model);
+}
+
 fn compare(name: &str, per: usize, part: u64, acts: &[(u8, u64)]) {
-    // An argument picks the cases whose name has it.
-    if let Some(word) = std::env::args().nth(1) {
-        if !name.contains(&word) {
-            return;
-        }
+    if !picked(name) {
+        return;
     }
     let codes: Vec<u8> = acts.iter().map(|a| a.0).collect();
     let numbers: Vec<u64> = acts.iter().map(|a| a.1).collect();
@@ -112,26 +113,49 @@ fn compare(name: &str, per: usize, part: u64, acts: &[(u8, u64)]) {
         assert!(p.numbers == m.numbers && p.used == m.used && p.eeprom == m.eeprom && p.id == m.id, "{name}: the copies differ");
         best = [best[0].min(tp), best[1].min(tm)];
     }
-    let ns = |d: Duration| d.as_nanos() as f64 / per as f64;
-    println!("{name}: proved {:.2} ns, model {:.2} ns, ratio {:.3}", ns(best[0]), ns(best[1]), best[0].as_secs_f64() / best[1].as_secs_f64());
+    tell(name, per, best);
 }
 
-// The proved copy loads a text for an EEPROM of so many bytes, and saves it again into the room lent.
-fn resaved(text: &[u8], size: usize, into: &mut [u8]) -> usize {
-    let mut eeprom = [0u8; 256];
-    let mut id = [0u8; 16];
-    unsafe {
-        tekuravy_resave(
-            text.as_ptr(),
-            text.len(),
-            eeprom.as_mut_ptr(),
-            size,
-            id.as_mut_ptr(),
-            id.len(),
-            into.as_mut_ptr(),
-            into.len(),
-        ) as usize
+// The acts of `opening`, then a million bytes, each an act of its own: through the C interface, and through the model, a thousand at a time. The
+// answers stay where they were written, and are compared while no clock runs.
+fn interface(name: &str, part: u64, opening: &[(u64, u64)]) {
+    const TURNS: usize = 1_000;
+    const BYTES: usize = 1_000;
+    if !picked(name) {
+        return;
     }
+    let mut best = [Duration::MAX; 2];
+    for _ in 0..5 {
+        let mut m = Chip::fresh(part);
+        let mut p = library::Chip::blank(m.eeprom.len(), m.id.len());
+        assert_eq!(p.renew(part), 0);
+        for &(act, number) in opening {
+            assert_eq!(p.act(act, number)[0], 0);
+            assert_eq!(m.perform(ACTS[act as usize], number).number, 0);
+        }
+        let mut answers = vec![[1; library::ANSWER]; BYTES];
+        let mut modelled = vec![None; BYTES];
+        let mut took = [Duration::ZERO; 2];
+        for _ in 0..TURNS {
+            let start = Instant::now();
+            for answer in &mut answers {
+                p.act_into(1, 0, answer);
+            }
+            took[0] += start.elapsed();
+            let start = Instant::now();
+            for answer in &mut modelled {
+                *answer = Some(m.perform(Act::Byte, 0));
+            }
+            took[1] += start.elapsed();
+            let same = answers.iter().zip(&modelled).all(|(p, m)| {
+                let m = m.expect("an answer");
+                p[..4] == [m.number, m.reply.is_some().into(), m.reply.unwrap_or(0).into(), m.count]
+            });
+            assert!(same && p.eeprom == m.eeprom && p.id == m.id, "{name}: the copies differ");
+        }
+        best = [best[0].min(took[0]), best[1].min(took[1])];
+    }
+    tell(name, TURNS * BYTES, best);
 }
 
 // The best of five times of a thousand turns, for one turn.
@@ -147,30 +171,30 @@ fn timed(mut turn: impl FnMut()) -> Duration {
     best / 1000
 }
 
-// Load and save of a chip of 2 Kbit. A load alone is one that is refused last, by 4.
 fn saved_chip() {
     let name = "load and save of a chip of 2 Kbit";
-    if std::env::args().nth(1).is_some_and(|word| !name.contains(&word)) {
+    if !picked(name) {
         return;
     }
     let mut random = Random::new(4);
     let chip = std::iter::repeat_with(|| chip(&mut random)).find(|c| c.part % 2 == 0).unwrap();
     let text = text_of(&chip);
-    let mut into = vec![0u8; 8192];
-    assert_eq!(resaved(&text, 256, &mut into), text.len(), "{name}: the copies differ");
-    assert!(into.starts_with(&text), "{name}: the copies differ");
-    let load = timed(|| assert_eq!(resaved(&text, 128, &mut into), 0));
-    let both = timed(|| assert_eq!(resaved(&text, 256, &mut into), text.len()));
-    let model_load = timed(|| assert!(model::saved::load(&text, 128, 16).is_err()));
-    let model_both = timed(|| {
-        let c = model::saved::load(&text, 256, 16).unwrap();
-        assert_eq!(model::saved::save(c.part, &c.device, &c.eeprom, &c.id, 8192).unwrap().len(), text.len());
+    let mut proved = library::Chip::blank(256, 16);
+    let mut room = vec![0u8; library::TEXT_MAX];
+    assert_eq!(proved.load(&text), (0, 0), "{name}: the copies differ");
+    assert_eq!(proved.text(), Ok(text.clone()), "{name}: the copies differ");
+    let load = timed(|| assert_eq!(proved.load(&text), (0, 0)));
+    let save = timed(|| assert_eq!(proved.save(&mut room), Ok(text.len())));
+    let model_load = timed(|| assert!(model::saved::load(&text, 256, 16).is_ok()));
+    let model_save = timed(|| {
+        let saved = model::saved::save(chip.part, &chip.device, &chip.eeprom, &chip.id, library::TEXT_MAX);
+        assert_eq!(saved.unwrap().len(), text.len());
     });
     let line = |what: &str, p: Duration, m: Duration| {
         println!("{what} of a chip of 2 Kbit: proved {:.2} us, model {:.2} us, ratio {:.3}", p.as_secs_f64() * 1e6, m.as_secs_f64() * 1e6, p.as_secs_f64() / m.as_secs_f64())
     };
     line("load", load, model_load);
-    line("save", both - load, model_both - model_load);
+    line("save", save, model_save);
 }
 
 fn frame(bytes: &[u64]) -> Vec<(u8, u64)> {
@@ -180,7 +204,27 @@ fn frame(bytes: &[u64]) -> Vec<(u8, u64)> {
     acts
 }
 
-fn main() {
+// bench/run sees to it that the two words are numbers.
+fn only_compare(runs: &str, first: &str) -> ExitCode {
+    let number = |word: &str| word.parse().expect("a number");
+    match compare::compare(number(runs), number(first)) {
+        Ok(told) => {
+            println!("bench/run: {told}");
+            ExitCode::SUCCESS
+        }
+        Err(why) => {
+            println!("bench/run: {why}");
+            ExitCode::FAILURE
+        }
+    }
+}
+
+fn main() -> ExitCode {
+    let words: Vec<String> = std::env::args().skip(1).collect();
+    if let [option, runs, first] = &words[..] {
+        assert_eq!(option, "--compare");
+        return only_compare(runs, first);
+    }
     let start = frame(&[0x12, 0x01, 0x80]);
     let mut long = start.clone();
     long.extend([(3, 16_777_216u64); 4]);
@@ -202,5 +246,8 @@ fn main() {
     }
     let n = writes.len();
     compare("an act of enabled page writes", n, 2, &writes);
+    interface("a byte act of a READ through the C interface", 2, &[(0, 0), (1, 0x13), (1, 0x00)]);
+    interface("a byte act of an EEREAD through the C interface", 2, &[(0, 0), (1, 0x03), (1, 0x00)]);
     saved_chip();
+    ExitCode::SUCCESS
 }
