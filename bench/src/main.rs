@@ -1,12 +1,9 @@
-//! The proved chip beside the model: the same acts through both, answers compared, times as ratios. With `--compare N FIRST` nothing
-//! is timed, and the acts are random ones.
-mod compare;
+//! The proved chip beside the model: the same acts through both, answers compared, times as ratios.
 mod library;
 
 use model::chip::{perform, Chip, Device};
 use model::generate::{chip, text_of, Random};
 use model::Act;
-use std::process::ExitCode;
 use std::time::{Duration, Instant};
 
 extern "C" {
@@ -204,27 +201,7 @@ fn frame(bytes: &[u64]) -> Vec<(u8, u64)> {
     acts
 }
 
-// bench/run sees to it that the two words are numbers.
-fn only_compare(runs: &str, first: &str) -> ExitCode {
-    let number = |word: &str| word.parse().expect("a number");
-    match compare::compare(number(runs), number(first)) {
-        Ok(told) => {
-            println!("bench/run: {told}");
-            ExitCode::SUCCESS
-        }
-        Err(why) => {
-            println!("bench/run: {why}");
-            ExitCode::FAILURE
-        }
-    }
-}
-
-fn main() -> ExitCode {
-    let words: Vec<String> = std::env::args().skip(1).collect();
-    if let [option, runs, first] = &words[..] {
-        assert_eq!(option, "--compare");
-        return only_compare(runs, first);
-    }
+fn main() {
     let start = frame(&[0x12, 0x01, 0x80]);
     let mut long = start.clone();
     long.extend([(3, 16_777_216u64); 4]);
@@ -249,5 +226,4 @@ fn main() -> ExitCode {
     interface("a byte act of a READ through the C interface", 2, &[(0, 0), (1, 0x13), (1, 0x00)]);
     interface("a byte act of an EEREAD through the C interface", 2, &[(0, 0), (1, 0x03), (1, 0x00)]);
     saved_chip();
-    ExitCode::SUCCESS
 }
