@@ -30,12 +30,12 @@ extern "C" {
 
 /* ---- Numbers ---- */
 
-#define MCP795_STATE 133       /* bytes of a state */
+#define MCP795_STATE 142       /* bytes of a state */
 #define MCP795_ANSWER 6        /* numbers of an answer */
 #define MCP795_CLOCK_BLOCK 96  /* bytes of registers and SRAM: addresses 00h to 5Fh */
 #define MCP795_ID_SIZE 16      /* bytes of the ID */
 #define MCP795_EEPROM_MAX 256  /* bytes of the larger EEPROM; see mcp795_eeprom_size */
-#define MCP795_TEXT_MAX 2059   /* bytes that every saved text fits in */
+#define MCP795_TEXT_MAX 2108   /* bytes that every saved text fits in */
 
 #define MCP795_TICKS_PER_SECOND UINT64_C(32768)
 #define MCP795_WAIT_MAX UINT64_C(16777216) /* ticks of the longest wait */
@@ -53,6 +53,8 @@ extern "C" {
 #define MCP795_ACT_WAIT 3   /* time passes: ticks, at most MCP795_WAIT_MAX */
 #define MCP795_ACT_CUT 4    /* power fails: bit k is set if offset k of a page being written got stored */
 #define MCP795_ACT_UP 5     /* power comes back: 0 */
+#define MCP795_ACT_EVLS 6   /* the door's switch, EVLS: its level, 0 or 1 */
+#define MCP795_ACT_EVHS 7   /* the drum's sensor, EVHS: its level, 0 or 1 */
 
 /* Refusals; mcp795_refusal_text has the words. 7 is a tape's, and is never answered here. */
 #define MCP795_DONE 0
@@ -85,8 +87,21 @@ extern "C" {
 #define MCP795_STATUS_BP0 0x04
 #define MCP795_STATUS_BP1 0x08
 
-/* Where a state has what: a byte, unless another number of them is told. A count has three, the lowest first. D154 of
- * docs/DECISIONS.md tells which numbers each place may have. */
+/* EVENT_DETECT, the register of the event inputs, and its bits */
+#define MCP795_EVENT_DETECT 0x0B
+#define MCP795_EVHIF 0x80  /* EVHS had its edges */
+#define MCP795_EVLIF 0x40  /* EVLS stayed high for the debounce */
+#define MCP795_EVEN1 0x20  /* enables EVHS */
+#define MCP795_EVEN0 0x10  /* enables EVLS */
+#define MCP795_EVWDT 0x08  /* edges of EVHS zero the watchdog's count, and are no events */
+#define MCP795_EVLDB 0x04  /* the debounce is 500 ms, and not 31.25 ms */
+#define MCP795_EDGES_1 0x00
+#define MCP795_EDGES_4 0x01
+#define MCP795_EDGES_16 0x02
+#define MCP795_EDGES_32 0x03
+
+/* Where a state has what: a byte, unless another number of them is told. A count has three, the lowest first. D154 and
+ * D194 of docs/DECISIONS.md tell which numbers each place may have. */
 #define MCP795_AT_PART 0
 #define MCP795_AT_REGISTERS 1  /* 32: 00h to 1Fh as stored; bits that READ computes are 0 */
 #define MCP795_AT_SRAM 33      /* 64: 20h to 5Fh, so that address a of the clock block is at MCP795_AT_REGISTERS + a */
@@ -106,6 +121,11 @@ extern "C" {
 #define MCP795_AT_NEXT 129
 #define MCP795_AT_TARGET 130   /* 2: kind, value */
 #define MCP795_AT_LEFT 132     /* ticks left of the write cycle; WIP is set while it is not 0 */
+#define MCP795_AT_EVLS 133     /* the level */
+#define MCP795_AT_EVHS 134
+#define MCP795_AT_EDGES 135    /* rises of EVHS that are counted */
+#define MCP795_AT_SINCE 136    /* a count: ticks since the first of them */
+#define MCP795_AT_DEBOUNCE 139 /* a count: ticks that EVLS has yet to stay high; 0: nothing is awaited */
 
 /* ---- The library ----
  *
@@ -128,14 +148,15 @@ uint64_t mcp795_new(uint64_t part, uint8_t *state, size_t state_size, uint8_t *e
 
 /* An act. The answer: [0] the refusal number; [1] 1 if SO drives a reply; [2] the reply, a byte, or of an end its leftover bits
  * as a number; [3] the ticks that a wait used, or the bytes that a cut stored; [4] IRQ and [5] WDO after the act, 1 high, 0 low.
- * What does not apply is 0. A wait is over after the first tick that changes IRQ, WDO or WIP. Of several refusals the first
- * answers: 3 if the first byte is no part, or there is none; 4; 6; 3 for act and number; 5; 1 or 2. Arrays that are refused by
- * the first three of these are no chip, and IRQ and WDO are 1. */
+ * What does not apply is 0. A wait is over after the first tick that changes IRQ, WDO, WIP or an event flag (EVHIF, EVLIF). Of
+ * several refusals the first answers: 3 if the first byte is no part, or there is none; 4; 6; 3 for act and number; 5; 1 or 2.
+ * Arrays that are refused by the first three of these are no chip, and IRQ and WDO are 1. */
 uint64_t mcp795_act(uint8_t *state, size_t state_size, uint8_t *eeprom, size_t eeprom_size, uint8_t *id, size_t id_size,
                     uint64_t act, uint64_t number, uint64_t *answer);
 
 /* The chip of a saved text. Refused by 6 if state_size is not MCP795_STATE; then by 8 if the text is no saved chip: *line is its
- * first bad line, from 1; then by 4 if a memory's size is not that of the text's part. *line is 0 but for 8. */
+ * first bad line, from 1; then by 4 if a memory's size is not that of the text's part. *line is 0 but for 8. A text that ends
+ * before the lines of the event inputs, saved when there were none, is a chip that has 0 in each. */
 uint64_t mcp795_load(const uint8_t *text, size_t text_size, uint8_t *state, size_t state_size, uint8_t *eeprom,
                      size_t eeprom_size, uint8_t *id, size_t id_size, uint64_t *line);
 
@@ -240,7 +261,7 @@ static inline mcp795_answer mcp795_end(mcp795_chip *chip, unsigned leftover_bits
     return mcp795_do(chip, MCP795_ACT_END, leftover_bits);
 }
 
-/* Stops early, where a line or WIP changes: the answer's count tells when. mcp795_advance does not. */
+/* Stops early, where a line, WIP or an event flag changes: the answer's count tells when. mcp795_advance does not. */
 static inline mcp795_answer mcp795_wait(mcp795_chip *chip, uint64_t ticks)
 {
     return mcp795_do(chip, MCP795_ACT_WAIT, ticks);
@@ -254,6 +275,20 @@ static inline mcp795_answer mcp795_cut(mcp795_chip *chip, uint8_t mask)
 static inline mcp795_answer mcp795_up(mcp795_chip *chip)
 {
     return mcp795_do(chip, MCP795_ACT_UP, 0);
+}
+
+/* The door's switch, EVLS. A rise starts the debounce if EVEN0 and OSCON are set and EVLIF is clear; a fall ends it. Levels are 0
+ * and 1, with power or without; the level that is there already is no edge. */
+static inline mcp795_answer mcp795_set_evls(mcp795_chip *chip, unsigned level)
+{
+    return mcp795_do(chip, MCP795_ACT_EVLS, level);
+}
+
+/* The drum's sensor, EVHS. A rise counts if EVEN1 and OSCON are set and EVHIF and EVWDT clear: the last one sets EVHIF, and the
+ * answer shows IRQ low. */
+static inline mcp795_answer mcp795_set_evhs(mcp795_chip *chip, unsigned level)
+{
+    return mcp795_do(chip, MCP795_ACT_EVHS, level);
 }
 
 /* IRQ and WDO as they are. Nothing changes, and no time passes. */
@@ -295,11 +330,29 @@ static inline bool mcp795_powered(const mcp795_chip *chip)
     return chip->state[MCP795_AT_POWER] != 0;
 }
 
+/* The levels that the event inputs were set to: true is high. */
+static inline bool mcp795_evls(const mcp795_chip *chip)
+{
+    return chip->state[MCP795_AT_EVLS] != 0;
+}
+
+static inline bool mcp795_evhs(const mcp795_chip *chip)
+{
+    return chip->state[MCP795_AT_EVHS] != 0;
+}
+
+/* MCP795_EVHIF and MCP795_EVLIF, those that are set. Each of them holds IRQ low. */
+static inline uint8_t mcp795_event_flags(const mcp795_chip *chip)
+{
+    return mcp795_peek(chip, MCP795_EVENT_DETECT) & (MCP795_EVHIF | MCP795_EVLIF);
+}
+
 /* ---- Time ---- */
 
 #define MCP795_CHANGED_IRQ 1u
 #define MCP795_CHANGED_WDO 2u
 #define MCP795_CHANGED_WIP 4u
+#define MCP795_CHANGED_EVENT 8u /* an event flag */
 
 typedef struct mcp795_change {
     uint64_t ticks;   /* since mcp795_advance was called, the tick of the change among them */
@@ -307,13 +360,14 @@ typedef struct mcp795_change {
     bool irq;         /* the levels after it */
     bool wdo;
     bool wip;
+    uint8_t flags;    /* as mcp795_event_flags has them */
 } mcp795_change;
 
 typedef void mcp795_report(const mcp795_change *change, void *context);
 
-/* Lets all of these ticks pass, however many, and reports every change of IRQ, WDO and WIP on the way, that of the last tick too.
- * `report` may be null. It may act on the chip, as an interrupt handler would; ticks that it lets pass itself are not among
- * these. In the answer, count is how many passed: all, if nothing was refused. */
+/* Lets all of these ticks pass, however many, and reports every change of IRQ, WDO, WIP and the event flags on the way, that of the
+ * last tick too. `report` may be null. It may act on the chip, as an interrupt handler would; ticks that it lets pass itself are not
+ * among these. In the answer, count is how many passed: all, if nothing was refused. */
 static inline mcp795_answer mcp795_advance(mcp795_chip *chip, uint64_t ticks, mcp795_report *report, void *context)
 {
     uint64_t passed = 0;
@@ -321,6 +375,7 @@ static inline mcp795_answer mcp795_advance(mcp795_chip *chip, uint64_t ticks, mc
     while (answer.refusal == MCP795_DONE && passed < ticks) {
         const mcp795_answer before = answer;
         const bool wip = mcp795_wip(chip);
+        const uint8_t flags = mcp795_event_flags(chip);
         const uint64_t asked = ticks - passed < MCP795_WAIT_MAX ? ticks - passed : MCP795_WAIT_MAX;
         mcp795_change change;
         answer = mcp795_wait(chip, asked);
@@ -329,8 +384,9 @@ static inline mcp795_answer mcp795_advance(mcp795_chip *chip, uint64_t ticks, mc
         change.irq = answer.irq;
         change.wdo = answer.wdo;
         change.wip = mcp795_wip(chip);
+        change.flags = mcp795_event_flags(chip);
         change.changed = (change.irq != before.irq ? MCP795_CHANGED_IRQ : 0) | (change.wdo != before.wdo ? MCP795_CHANGED_WDO : 0) |
-                         (change.wip != wip ? MCP795_CHANGED_WIP : 0);
+                         (change.wip != wip ? MCP795_CHANGED_WIP : 0) | (change.flags != flags ? MCP795_CHANGED_EVENT : 0);
         if (report != NULL && (change.changed != 0 || answer.count < asked)) {
             report(&change, context);
             answer = mcp795_levels(chip);

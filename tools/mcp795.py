@@ -13,8 +13,12 @@
     chip.registers['MINUTES']                                 # what is stored, without a frame
     chip.irq, chip.wdo, chip.wip, chip.wel, chip.powered      # lines and bits at this moment
 
-Frames, time and power go through the chip's six acts (select, byte, end, wait, cut, up), and the
-library alone answers them, as docs/RULES.md says.
+    chip.write(Register.EVENT_DETECT, [Bit.EVEN0 | Bit.EVLDB])
+    chip.door = 1                                             # EVLS rises; chip.drum is EVHS
+    chip.advance(seconds=1)                                   # IRQ falls after 16,384 ticks, 500 ms
+
+Frames, time, power and the two inputs go through the chip's eight acts (select, byte, end, wait,
+cut, up, evls, evhs), and the library alone answers them, as docs/RULES.md says.
 
 Time. A tick is 1/32,768 s. Ticks pass in wait() and advance(), and on the bus: at an SPI clock of
 spi_hz a byte takes 8/spi_hz seconds, which pass after the byte was answered. The default is 1 MHz,
@@ -66,13 +70,15 @@ class Part(enum.IntEnum):
 
 
 class Act(enum.IntEnum):
-    """The six acts."""
+    """The eight acts."""
     SELECT = 0
     BYTE = 1
     END = 2
     WAIT = 3
     CUT = 4
     UP = 5
+    EVLS = 6
+    EVHS = 7
 
 
 class Code(enum.IntEnum):
@@ -160,21 +166,23 @@ class Answer(typing.NamedTuple):
 
 
 class Event(typing.NamedTuple):
-    """A change of IRQ, WDO or WIP. Two that change in one tick are two events."""
+    """A change of IRQ, WDO, WIP or an event flag: all that ends a wait. Two that change in one tick are two events."""
     after: int      # ticks since the advance, wait or byte began in whose time it came; 0 if an act made it at once
     at: int         # the chip's `now` at the change
-    line: str       # 'IRQ', 'WDO' or 'WIP'
+    line: str       # 'IRQ', 'WDO', 'WIP', 'EVHIF' or 'EVLIF'
     irq: int        # the levels after it; WIP is a bit of STATUS, and 1 while a write cycle runs
     wdo: int
     wip: int
+    evhif: int = 0  # the flags of EVENT_DETECT
+    evlif: int = 0
 
     @property
     def level(self) -> int:
-        """The new level of the line that changed."""
+        """The new level of the line, or the flag, that changed."""
         return getattr(self, self.line.lower())
 
 
-_LINES = 'IRQ', 'WDO', 'WIP'
+_LINES = 'IRQ', 'WDO', 'WIP', 'EVHIF', 'EVLIF'
 
 _WORDS = {
     1: 'select, and the chip is selected already',
@@ -201,7 +209,7 @@ class Refused(Exception):
         shown = self.act
         if self.act in ('byte', 'cut'):
             shown += ' 0x%02X' % self.argument if self.argument >= 0 else ' %d' % self.argument
-        elif self.argument or self.act in ('part', 'end', 'wait'):
+        elif self.argument or self.act in ('part', 'end', 'wait', 'evls', 'evhs'):
             shown += ' %s' % self.argument
         return '%s: refused by %d: %s' % (shown, self.number, self.words)
 
@@ -223,21 +231,24 @@ class LibraryError(Exception):
     """The library is not there, or cannot be used."""
 
 
-_STATE = 133        # the bytes of a chip without EEPROM and ID: the numbers of its saved form, in that order
+_STATE = 142        # the bytes of a chip without EEPROM and ID: the numbers of its saved form, in that order
 _ANSWER = 6
 _ID = 16
-_ROOM = 4096        # every saved text fits in 2,059 bytes
+_ROOM = 4096        # every saved text fits in 2,108 bytes
 _READ_LIMIT = 8192  # of a file: the first bad line of a longer one begins before that
 
-# Where the state has what. The five counts, of three bytes each, stand between SRAM and power.
+# Where the state has what. Counts have three bytes each: five stand between SRAM and power, two at the end.
 _PART = 0
 _REGISTERS = slice(1, 33)
+_EVENT_DETECT = 1 + Register.EVENT_DETECT
 _SRAM = slice(33, 97)
 _POWER = 112
 _WEL = 114
 _BP = 115
 _STAGE = 117        # its kind; 0: not selected
 _LEFT = 132         # ticks left of a write cycle
+_EVLS = 133         # levels
+_EVHS = 134
 
 _LARGEST = 2**64 - 1
 
@@ -372,7 +383,8 @@ class Chip:
     part: 1 to 4, a Part, or a name: 'W20', 'W2', 'W2K' and 'MCP795W20' are one.
     spi_hz: the SPI clock, or None for a bus that takes no time; see the module's text. It may be changed at any time.
 
-    events: every change of IRQ, WDO and WIP, whatever made it, oldest first; a list that may be cleared.
+    events: every change of IRQ, WDO, WIP, EVHIF and EVLIF, whatever made it, oldest first; a list that may be cleared.
+    door, drum: the levels of the event inputs EVLS and EVHS. To set one is the chip's act.
 
     Two chips are equal (==) if the chip's state is: what save() writes. `now`, `events` and `spi_hz` are not compared.
     """
@@ -428,8 +440,9 @@ class Chip:
                    zip((self._state, self._eeprom, self._id), (other._state, other._eeprom, other._id)))
 
     def __repr__(self):
-        return '<Chip %s at %d ticks: power=%d selected=%d irq=%d wdo=%d wip=%d wel=%d>' % (
-            self.part.name, self.now, self.powered, self.selected, self.irq, self.wdo, self.wip, self.wel)
+        return '<Chip %s at %d ticks: power=%d selected=%d irq=%d wdo=%d wip=%d wel=%d door=%d drum=%d>' % (
+            self.part.name, self.now, self.powered, self.selected, self.irq, self.wdo, self.wip, self.wel, self.door,
+            self.drum)
 
     # The acts
 
@@ -442,15 +455,20 @@ class Chip:
         return self._answer[:]
 
     def _act(self, code, number, since):
-        before = self._irq, self._wdo, self.wip
+        before = self._levels()
         refusal, driven, reply, count, self._irq, self._wdo = self._call(code, number)
         if code == Act.WAIT:
             self._now += count
-        levels = self._irq, self._wdo, self.wip
+        levels = self._levels()
         if levels != before:
             self.events += [Event(self._now - since, self._now, line, *levels)
                             for line, old, new in zip(_LINES, before, levels) if old != new]
         return Answer(refusal, bool(driven), reply, count, self._irq, self._wdo)
+
+    def _levels(self):
+        """In the order of _LINES."""
+        events = self._state[_EVENT_DETECT]
+        return self._irq, self._wdo, int(self._state[_LEFT] > 0), events >> 7, events >> 6 & 1
 
     def _do(self, act, number, since=None):
         answer = self._act(act, number, self._now if since is None else since)
@@ -476,8 +494,8 @@ class Chip:
         return answer.reply if answer.driven else None
 
     def wait(self, ticks) -> int:
-        """Lets at most this many ticks pass, 16,777,216 or less: it ends after the first that changes IRQ, WDO or WIP.
-        Gives the ticks that passed. advance() goes on over such changes."""
+        """Lets at most this many ticks pass, 16,777,216 or less: it ends after the first that changes IRQ, WDO, WIP or an
+        event flag. Gives the ticks that passed. advance() goes on over such changes."""
         return self._do(Act.WAIT, ticks).count
 
     def cut(self, mask=0) -> int:
@@ -488,6 +506,30 @@ class Chip:
     def up(self) -> None:
         """Power comes back."""
         self._do(Act.UP, 0)
+
+    @property
+    def door(self) -> int:
+        """The level of EVLS, the door's switch. It is set to 0 or 1, with power or without; all else raises Refused, 3.
+
+        A rise starts the debounce if EVEN0 and OSCON are set and EVLIF is clear; a fall ends it. To set the level that is
+        there does nothing."""
+        return self._state[_EVLS]
+
+    @door.setter
+    def door(self, level):
+        self._do(Act.EVLS, level)
+
+    @property
+    def drum(self) -> int:
+        """The level of EVHS, the drum's sensor, set as `door` is.
+
+        A rise counts if EVEN1 and OSCON are set and EVHIF and EVWDT clear; the last one sets EVHIF at once. With EVWDT set
+        each edge zeroes the watchdog's count instead."""
+        return self._state[_EVHS]
+
+    @drum.setter
+    def drum(self, level):
+        self._do(Act.EVHS, level)
 
     # Time
 
@@ -657,7 +699,8 @@ class Chip:
 
     @classmethod
     def from_text(cls, text, spi_hz=DEFAULT_SPI_HZ) -> Chip:
-        """The chip of a text, str or bytes. A text that is no saved chip raises BadText with its first bad line."""
+        """The chip of a text, str or bytes. A text that is no saved chip raises BadText with its first bad line. One that
+        was saved before there were event inputs has 0 for all of theirs."""
         text = text.encode('utf-8', 'surrogatepass') if isinstance(text, str) else _octets(text)
         return cls._loaded(text, 'text', spi_hz)
 

@@ -7,17 +7,21 @@ use model::chip::{self, lengths_fit, part_exists};
 use model::generate::{self, Random};
 use model::saved;
 use model::tape::{parse, Op};
-use std::ops::Range;
 
 const LINES: u64 = 300;
-const TAPES: [fn(u64, u64) -> Vec<u8>; 4] = [generate::tape, generate::power_tape, generate::latch_tape, generate::bits_tape];
+const TAPES: [fn(u64, u64) -> Vec<u8>; 5] =
+    [generate::tape, generate::power_tape, generate::latch_tape, generate::bits_tape, generate::events_tape];
 
 /// Spoiled states and texts for each run of acts.
 const STATES: u64 = 50;
 const TEXTS: u64 = 20;
 
-/// Where a state has its five counts, each of three bytes.
-const COUNTS: Range<usize> = 97..112;
+/// Where a state has its counts, each of three bytes. From the first of them on there is no register and no SRAM.
+const COUNTS: [usize; 7] = [97, 100, 103, 106, 109, 136, 139];
+
+/// Where it has 0Bh, and from where on the event inputs.
+const EVENT_DETECT: usize = 1 + 0x0B;
+const EVENTS: usize = 133;
 
 #[derive(Default)]
 struct Totals {
@@ -34,7 +38,7 @@ pub fn compare(runs: u64, first: u64) -> Result<String, String> {
         let seed = first.wrapping_add(k);
         let mut random = Random::new(seed ^ 0x5EED);
         // The seed chooses the part, so the kind of the tape goes on only after each part had its turn.
-        let tape = TAPES[(seed / 4 % 4) as usize](seed, LINES);
+        let tape = TAPES[(seed / 4 % 5) as usize](seed, LINES);
         run(&tape, &mut random, &mut totals).map_err(|why| format!("seed {seed}: {why}"))?;
         for _ in 0..STATES {
             spoiled_state(&mut random, &mut totals).map_err(|why| format!("seed {seed}: {why}"))?;
@@ -163,8 +167,8 @@ fn run(tape: &[u8], random: &mut Random, totals: &mut Totals) -> Result<(), Stri
 /// An act or a number that no line of a tape has. A wait is short, or longer than allowed.
 fn odd_act(random: &mut Random) -> (u64, u64) {
     let act = match random.below(3) {
-        0 => random.pick(&[6, 7, 8, 255, 256, 257, 1 << 32, (1 << 32) + 3, 1 << 63, u64::MAX]),
-        _ => random.below(6),
+        0 => random.pick(&[8, 9, 255, 256, 257, 1 << 32, (1 << 32) + 3, (1 << 32) + 6, 1 << 63, u64::MAX]),
+        _ => random.below(8),
     };
     let number = match random.below(3) {
         0 => random.below(9),
@@ -190,7 +194,7 @@ fn sizes_refused(chip: &library::Chip) -> u64 {
 
 /// A size of a state that is not its own.
 fn odd_size(random: &mut Random) -> usize {
-    random.pick(&[0, 1, 2, 96, 97, 123, STATE - 1, STATE + 1, 256, 984])
+    random.pick(&[0, 1, 2, 96, 97, 123, EVENTS, STATE - 1, STATE + 1, 256, 984])
 }
 
 /// Arrays of other sizes are refused, whatever the act.
@@ -221,27 +225,35 @@ fn wrong_sizes(both: &Both, random: &mut Random) -> Result<(), String> {
 
 /// The numbers of a state: one for each byte, and for the three of a count.
 fn numbers_of(state: &[u8]) -> Vec<u64> {
-    let number = |bytes: &[u8]| bytes.iter().rev().fold(0, |n, &byte| n << 8 | u64::from(byte));
-    let pieces = [(&state[..COUNTS.start], 1), (&state[COUNTS], 3), (&state[COUNTS.end..], 1)];
-    pieces.iter().flat_map(|(bytes, width)| bytes.chunks(*width)).map(number).collect()
+    let mut numbers = Vec::new();
+    let mut at = 0;
+    while at < state.len() {
+        let width = if COUNTS.contains(&at) { 3 } else { 1 };
+        numbers.push(state[at..at + width].iter().rev().fold(0, |n, &byte| n << 8 | u64::from(byte)));
+        at += width;
+    }
+    numbers
 }
 
-/// The text with the numbers of these arrays, good or not. Its keys before the memories' are those of another text.
+/// The text with the numbers of these arrays, good or not. Its keys are those of another text, but for the memories'.
 fn text_with(keys: &[u8], chip: &library::Chip) -> Vec<u8> {
     let mut made = String::new();
     let mut put = |key: &str, words: Vec<String>| made += &format!("{key}={}\n", words.join(","));
     let mut numbers = numbers_of(&chip.state).into_iter();
-    let mut lines = std::str::from_utf8(keys).expect("a saved text").lines();
-    while numbers.len() > 0 {
-        let (key, words) = lines.next().and_then(|line| line.split_once('=')).expect("a line");
-        let count = words.split(',').count();
-        put(key, numbers.by_ref().take(count).map(|n| n.to_string()).collect());
-    }
-    for (key, memory) in [("ee", &chip.eeprom), ("id", &chip.id)] {
-        for (k, bytes) in memory.chunks(8).enumerate() {
-            put(&format!("{key}{k}"), bytes.iter().map(u8::to_string).collect());
+    for line in std::str::from_utf8(keys).expect("a saved text").lines() {
+        let (key, words) = line.split_once('=').expect("a line");
+        if key == "ee0" {
+            for (key, memory) in [("ee", &chip.eeprom), ("id", &chip.id)] {
+                for (k, bytes) in memory.chunks(8).enumerate() {
+                    put(&format!("{key}{k}"), bytes.iter().map(u8::to_string).collect());
+                }
+            }
+        } else if !key.starts_with("ee") && !key.starts_with("id") {
+            let count = words.split(',').count();
+            put(key, numbers.by_ref().take(count).map(|n| n.to_string()).collect());
         }
     }
+    assert_eq!(numbers.len(), 0, "a state has the numbers of a text");
     made.into_bytes()
 }
 
@@ -261,7 +273,9 @@ fn odd_byte(random: &mut Random, was: u8) -> u8 {
 
 /// The same for a count, of which the low three bytes are taken.
 fn odd_count(random: &mut Random) -> u64 {
-    const EDGES: [u64; 12] = [0, 32, 512, 2_048, 4_096, 32_768, 65_536, 524_288, 1_048_576, 2_097_152, 1 << 22, 1 << 24];
+    const EDGES: [u64; 15] = [
+        0, 32, 512, 1_024, 2_048, 4_096, 8_192, 16_384, 32_768, 65_536, 524_288, 1_048_576, 2_097_152, 1 << 22, 1 << 24,
+    ];
     match random.below(3) {
         0 => random.pick(&EDGES).wrapping_add(random.below(3)).wrapping_sub(1),
         1 => random.next() >> random.below(64),
@@ -269,25 +283,32 @@ fn odd_count(random: &mut Random) -> u64 {
     }
 }
 
-/// Changes a few bytes of a state: anywhere, or those that are not register or SRAM, or a count as a whole; seldom all of these.
+/// A place of a state from `first` on, or once in a while this other one.
+fn place_from(random: &mut Random, first: usize, other: usize) -> usize {
+    let place = random.below((STATE - first) as u64 + 1) as usize;
+    if place == 0 {
+        other
+    } else {
+        first + place - 1
+    }
+}
+
+/// Changes a few bytes of a state: anywhere, or those that are not register or SRAM, or the event inputs', or a count as a whole; seldom
+/// all of these.
 fn spoil(random: &mut Random, state: &mut [u8]) {
     let all = random.once_in(50);
     for _ in 0..if all { 40 } else { 1 + random.below(3) } {
-        match random.below(4) {
+        let place = match random.below(5) {
             0 => {
-                let place = COUNTS.start + 3 * random.below(5) as usize;
+                let place = random.pick(&COUNTS);
                 state[place..place + 3].copy_from_slice(&odd_count(random).to_le_bytes()[..3]);
+                continue;
             }
-            1 | 2 => {
-                let place = random.below((STATE - COUNTS.start) as u64 + 1) as usize;
-                let place = if place == 0 { 0 } else { COUNTS.start + place - 1 };
-                state[place] = odd_byte(random, state[place]);
-            }
-            _ => {
-                let place = random.below(STATE as u64) as usize;
-                state[place] = odd_byte(random, state[place]);
-            }
-        }
+            1 | 2 => place_from(random, COUNTS[0], 0),
+            3 => place_from(random, EVENTS, EVENT_DETECT),
+            _ => random.below(STATE as u64) as usize,
+        };
+        state[place] = odd_byte(random, state[place]);
     }
 }
 
@@ -317,9 +338,10 @@ fn spoiled_state(random: &mut Random, totals: &mut Totals) -> Result<(), String>
         refusal => Err(refusal),
     };
     // No long wait: the model goes tick by tick.
-    let (act, number) = match random.below(3) {
+    let (act, number) = match random.below(4) {
         0 => (3, random.below(2_000)),
         1 => (random.below(3), random.below(8)),
+        2 => (6 + random.below(2), random.below(3)),
         _ => odd_act(random),
     };
     let size = library.state.len();
@@ -370,8 +392,10 @@ fn spoiled_text(text: &[u8], random: &mut Random, totals: &mut Totals) -> Result
                 return Err(format!("loading answers {found:?}, the model {refused:?}, or something changed: {}", shown()));
             }
         }
-        Ok(_) => {
-            if found != (0, 0) || chip.text().as_deref() != Ok(text) {
+        Ok(model) => {
+            // An older text is written back with the lines that it lacks.
+            let text = generate::text_of(&model);
+            if found != (0, 0) || chip.text().as_ref() != Ok(&text) {
                 return Err(format!("loading answers {found:?}, or it is saved as something else: {}", shown()));
             }
             let short = text.len() - 1 - random.below(text.len() as u64) as usize;

@@ -1,9 +1,9 @@
 //! The C interface of the proved chip (include/mcp795.h) as a safe struct.
 
 /// Bytes of a state, numbers of an answer, room for every saved text.
-pub const STATE: usize = 133;
+pub const STATE: usize = 142;
 pub const ANSWER: usize = 6;
-pub const TEXT_MAX: usize = 2059;
+pub const TEXT_MAX: usize = 2108;
 
 extern "C" {
     fn mcp795_new(

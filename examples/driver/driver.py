@@ -8,10 +8,12 @@ from datetime import datetime
 SRWRITE, EEWRITE, EEREAD, EEWRDI, SRREAD, EEWREN = 0x01, 0x02, 0x03, 0x04, 0x05, 0x06
 WRITE, READ, UNLOCK, IDWRITE, IDREAD, CLRWDT = 0x12, 0x13, 0x14, 0x32, 0x33, 0x44
 
-HUNDREDTHS, SECONDS, HOURS, CONTROL, WATCHDOG, ALARM_0, ALARM_0_DAY = 0x00, 0x01, 0x03, 0x08, 0x0A, 0x0C, 0x0F
+HUNDREDTHS, SECONDS, HOURS, CONTROL, WATCHDOG, EVENT_DETECT = 0x00, 0x01, 0x03, 0x08, 0x0A, 0x0B
+ALARM_0, ALARM_0_DAY = 0x0C, 0x0F
 
 ST, CALSGN, VBAT, VBATEN, ALM0, WDTEN = 0x80, 0x80, 0x10, 0x08, 0x10, 0x80
 ALM0C, ALM0IF = 0x70, 0x08     # the code that compares everything; the flag
+EVLIF, EVEN0, EVLDB = 0x40, 0x10, 0x04
 WIP = 0x01
 
 NOTHING, LAST_QUARTER, LAST_HALF, EVERYTHING = 0x00, 0x04, 0x08, 0x0C      # what BP1 BP0 protect
@@ -88,6 +90,19 @@ class Mcp795:
 
     def feed_watchdog(self):
         self.bus.transfer(bytes([CLRWDT]))
+
+    # The door's switch, on EVLS
+
+    def watch_door(self):
+        """Lets IRQ fall when the door has been open for 500 ms. The clock has to run, and the door to be shut before."""
+        self.write(EVENT_DETECT, [EVEN0 | EVLDB])
+
+    def door_was_opened(self):
+        """Tells whether it was; then IRQ rises, and the next time is waited for."""
+        opened = bool(self.read(EVENT_DETECT, 1)[0] & EVLIF)
+        if opened:      # a write would end the debounce of a door that has just been opened
+            self.watch_door()
+        return opened
 
     # EEPROM, ID, STATUS
 

@@ -112,6 +112,44 @@ class Watchdog(unittest.TestCase):
         self.assertRaises(ValueError, self.rtc.start_watchdog, 8)
 
 
+class Door(unittest.TestCase):
+    DEBOUNCE = SECOND // 2
+
+    def setUp(self):
+        self.chip = Chip(spi_hz=None)
+        self.rtc = Mcp795(self.chip)
+        self.rtc.set_time(datetime(2026, 5, 14))
+        self.chip.advance(ticks=STARTUP)
+        self.rtc.watch_door()
+
+    def test_a_door_that_bounces(self):
+        for level in 1, 0, 1, 0, 1:
+            self.chip.advance(seconds=0.002)
+            self.chip.door = level
+        self.assertEqual(self.chip.advance(ticks=self.DEBOUNCE - 1), [])
+        irq, flag = self.chip.advance(seconds=1)
+        self.assertEqual((irq.line, irq.level, irq.after), ('IRQ', 0, 1))
+        self.assertEqual((flag.line, flag.level, flag.after), ('EVLIF', 1, 1))
+        self.assertTrue(self.rtc.door_was_opened())
+        self.assertEqual(self.chip.irq, 1)
+        self.assertFalse(self.rtc.door_was_opened())
+        self.assertEqual(self.chip.advance(seconds=10), [])
+
+    def test_asking_does_not_disturb(self):
+        self.chip.door = 1
+        for _ in range(4):
+            self.chip.advance(seconds=0.1)
+            self.assertFalse(self.rtc.door_was_opened())
+        self.chip.advance(seconds=0.1)
+        self.assertTrue(self.rtc.door_was_opened())
+
+    def test_a_door_that_was_open_before(self):
+        self.chip.door = 1
+        self.rtc.watch_door()
+        self.assertEqual(self.chip.advance(seconds=10), [])
+        self.assertFalse(self.rtc.door_was_opened())
+
+
 class Eeprom(unittest.TestCase):
     def setUp(self):
         self.chip = Chip()

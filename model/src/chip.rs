@@ -4,7 +4,7 @@
 use std::ops::Range;
 
 use crate::calendar::{self, Reach};
-use crate::{Act, ERASED};
+use crate::{events, Act, ERASED};
 
 // Instruction codes (000, table 3-1).
 pub const EEREAD: u8 = 0x03;
@@ -230,6 +230,14 @@ pub struct Device {
     pub pulse: u64,
     /// 02 Time-stamps, the mark: the cut took a time-stamp, and so will the up that ends it.
     pub stamp_due: bool,
+    /// 02 Events: the levels of the two inputs, 0 or 1.
+    pub evls: u64,
+    pub evhs: u64,
+    /// Counted rises of EVHS, and ticks since the first of them.
+    pub edges: u64,
+    pub since: u64,
+    /// Ticks left until a high EVLS is an event; 0 is none to come.
+    pub debounce: u64,
 }
 
 /// 01 Acts: a fresh chip has 01h in day, date and month, and 0 in the other registers.
@@ -304,6 +312,11 @@ impl Device {
             delay: 0,
             pulse: 0,
             stamp_due: false,
+            evls: 0,
+            evhs: 0,
+            edges: 0,
+            since: 0,
+            debounce: 0,
         }
     }
 
@@ -351,9 +364,10 @@ impl Device {
         })
     }
 
-    /// 01 Calendar: the level of IRQ, low if an alarm holds it by a clear bit 7.
+    /// 01 Calendar: the level of IRQ, low if an alarm holds it by a clear bit 7. 02 Events: so does
+    /// each event flag, enabled or not.
     pub fn irq(&self) -> bool {
-        !self.alarm_holds(false)
+        !self.alarm_holds(false) && events::flags(self) == 0
     }
 
     /// 01 Calendar: the level of WDO, low if a pulse runs or an alarm holds it by a set bit 7.
@@ -361,8 +375,9 @@ impl Device {
         self.pulse == 0 && !self.alarm_holds(true)
     }
 
-    fn lines(&self) -> (bool, bool, bool) {
-        (self.irq(), self.wdo(), self.wip())
+    /// What a wait stops at when it changes: the lines, and the event flags themselves.
+    fn watched(&self) -> (bool, bool, bool, u8) {
+        (self.irq(), self.wdo(), self.wip(), events::flags(self))
     }
 }
 
@@ -411,6 +426,7 @@ pub fn out_of_range(part: u64, device: &Device) -> bool {
         || !device.power && (device.selected() || device.wip())
         || device.wip() && deaf_frame_open
         || device.power && device.stamp_due
+        || events::out_of_range(device)
 }
 
 /// Number 3 for the act's number.
@@ -420,6 +436,7 @@ pub fn number_too_large(act: Act, number: u64) -> bool {
         Act::Wait => LONGEST_WAIT,
         Act::Byte | Act::Cut => 255,
         Act::Select | Act::Up => 0,
+        Act::Evls | Act::Evhs => 1,
     };
     number > limit
 }
@@ -455,7 +472,7 @@ pub fn refusal(part: u64, act: Act, number: u64, device: &Device, eeprom: &[u8],
     let power_is_wrong = match act {
         Act::Select | Act::Byte | Act::End | Act::Cut => !device.power,
         Act::Up => device.power,
-        Act::Wait => false,
+        Act::Wait | Act::Evls | Act::Evhs => false,
     };
     if power_is_wrong {
         return 5;
@@ -523,6 +540,9 @@ fn after_register_write(part: u64, device: &mut Device, address: usize) {
         // Bits 7 and 5 set, 6 clear.
         let delayed = device.registers[WATCHDOG] & 0b1110_0000 == 0b1010_0000;
         device.delay = if delayed { DELAY } else { 0 };
+    }
+    if address == events::EVENTS {
+        events::forget(device);
     }
 }
 
@@ -725,7 +745,7 @@ fn store(device: &mut Device, mask: u8, eeprom: &mut [u8], id: &mut [u8]) -> u64
     stored
 }
 
-/// One tick, its parts in the order of 01 Calendar.
+/// One tick, its parts in the order of 01 Calendar; 02 Events puts the inputs after the watchdog.
 pub fn tick(part: u64, device: &mut Device, eeprom: &mut [u8], id: &mut [u8]) {
     if !device.power && !device.vbaten() {
         return; // 01 Power: without power and battery no count moves
@@ -739,6 +759,7 @@ pub fn tick(part: u64, device: &mut Device, eeprom: &mut [u8], id: &mut [u8]) {
     }
     let counted = tick_oscillator(part, device);
     tick_watchdog(device, counted);
+    events::tick(device, counted);
     if counted && device.st() {
         if let Some(reach) = tick_calendar(device) {
             tick_alarms(device, reach);
@@ -842,12 +863,13 @@ fn tick_alarms(device: &mut Device, reach: Reach) {
     }
 }
 
-/// 01 Calendar: ticks until IRQ, WDO or WIP is another than before, n at most. Gives how many.
+/// 01 Calendar, 02 Events: ticks until IRQ, WDO, WIP or an event flag is another than before, n at
+/// most. Gives how many.
 fn wait(part: u64, device: &mut Device, n: u64, eeprom: &mut [u8], id: &mut [u8]) -> u64 {
-    let lines = device.lines();
+    let watched = device.watched();
     for used in 1..=n {
         tick(part, device, eeprom, id);
-        if device.lines() != lines {
+        if device.watched() != watched {
             return used;
         }
     }
@@ -874,6 +896,7 @@ fn cut(device: &mut Device, mask: u8, eeprom: &mut [u8], id: &mut [u8]) -> u64 {
         device.sram = [0; 64];
         device.divider = 0;
         device.start_up = 0;
+        events::forget(device);
     } else if !device.vbat() {
         // 02 Time-stamps: later cuts find VBAT set, and the time of the first one stays.
         stamp(device, POWER_DOWN);
@@ -937,6 +960,8 @@ pub fn perform(
         Act::Wait => answer.count = wait(part, device, number, eeprom, id),
         Act::Cut => answer.count = cut(device, number as u8, eeprom, id),
         Act::Up => up(device),
+        Act::Evls => events::set_evls(device, number),
+        Act::Evhs => events::set_evhs(device, number),
     }
     answer
 }

@@ -1,10 +1,11 @@
 //! Random tapes that reach deep states: whole scenes (an unlock and an ID write, a time about to
 //! carry into an alarm, a cut in the middle of a cycle), disturbed now and then by a wait, a bad
-//! line, a refused act, a missing line or a cut. There are four kinds, with scenes of their own.
+//! line, a refused act, a missing line or a cut. There are five kinds, with scenes of their own.
 //! And random chips, as saved texts, whole and spoiled.
 
 mod bits;
 mod chips;
+mod events;
 mod latch;
 mod power;
 mod spoiled;
@@ -60,6 +61,8 @@ struct Writer {
     budget: u64,
     /// The lines of a scene are left as they are.
     calm: bool,
+    /// An alarm's scene may set event flags: they hold IRQ low.
+    free_flags: bool,
 }
 
 /// A mixed tape of `lines` lines. `seed % 4` chooses the part.
@@ -84,23 +87,14 @@ pub fn bits_tape(seed: u64, lines: u64) -> Vec<u8> {
     of_scenes(seed, lines, Writer::bits_scene)
 }
 
+/// A tape for the event inputs. `seed % 4` chooses the part.
+pub fn events_tape(seed: u64, lines: u64) -> Vec<u8> {
+    let mut writer = Writer { free_flags: false, ..Writer::new(seed) };
+    writer.scenes(seed, lines, Writer::event_scene)
+}
+
 fn of_scenes(seed: u64, lines: u64, scene: fn(&mut Writer)) -> Vec<u8> {
-    let mut writer =
-        Writer { random: Random::new(seed), tape: Vec::new(), lines: 0, budget: 0, calm: false };
-    let w = &mut writer;
-    if w.random.once_in(8) {
-        w.budget = 4 * DELAY; // some tapes see the watchdog's delay run out
-    }
-    while w.random.once_in(3) {
-        w.before_the_part();
-    }
-    w.raw(format!("op=part arg={}", 1 + seed % 4).as_bytes());
-    while w.lines < lines {
-        w.calm = !w.random.once_in(3);
-        scene(w);
-    }
-    let no_last_newline = w.random.once_in(4);
-    cut_to(writer.tape, lines, no_last_newline)
+    Writer::new(seed).scenes(seed, lines, scene)
 }
 
 /// The first `lines` lines.
@@ -118,6 +112,27 @@ fn cut_to(mut tape: Vec<u8>, lines: u64, no_last_newline: bool) -> Vec<u8> {
 }
 
 impl Writer {
+    fn new(seed: u64) -> Writer {
+        let random = Random::new(seed);
+        Writer { random, tape: Vec::new(), lines: 0, budget: 0, calm: false, free_flags: true }
+    }
+
+    fn scenes(&mut self, seed: u64, lines: u64, scene: fn(&mut Writer)) -> Vec<u8> {
+        if self.random.once_in(8) {
+            self.budget = 4 * DELAY; // some tapes see the watchdog's delay run out
+        }
+        while self.random.once_in(3) {
+            self.before_the_part();
+        }
+        self.raw(format!("op=part arg={}", 1 + seed % 4).as_bytes());
+        while self.lines < lines {
+            self.calm = !self.random.once_in(3);
+            scene(self);
+        }
+        let no_last_newline = self.random.once_in(4);
+        cut_to(std::mem::take(&mut self.tape), lines, no_last_newline)
+    }
+
     fn raw(&mut self, line: &[u8]) {
         self.tape.extend(line);
         self.tape.push(b'\n');
@@ -511,7 +526,7 @@ impl Writer {
         block[0x08] = self.random.byte() | if self.random.once_in(6) { 0 } else { 0x30 };
         block[0x09] = self.random.byte();
         block[0x0A] = if self.random.once_in(4) { self.watchdog_byte() } else { 0 };
-        block[0x0B] = self.random.byte();
+        block[0x0B] = self.random.byte() & if self.free_flags { 0xFF } else { 0x3F };
         for (base, from) in [(0x0B, 1), (0x12, 0)] {
             for field in from..from + 6 {
                 block[base + field] = next[field];

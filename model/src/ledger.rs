@@ -158,6 +158,8 @@ impl Ledger {
             Act::Wait => self.wait(ticks),
             Act::Cut => self.cut(number as u8),
             Act::Up => self.up(),
+            // 02 Events: the ledger has no pins.
+            Act::Evls | Act::Evhs => {}
         }
     }
 
@@ -170,6 +172,7 @@ impl Ledger {
             Act::Wait => number > 16_777_216,
             Act::Cut => number > 255 || !self.power,
             Act::Up => number != 0 || self.power,
+            Act::Evls | Act::Evhs => false,
         }
     }
 

@@ -5,12 +5,13 @@
 
 pub mod calendar;
 pub mod chip;
+pub mod events;
 pub mod generate;
 pub mod ledger;
 pub mod saved;
 pub mod tape;
 
-/// The six acts (01's word), each with a number.
+/// The acts (01's word), each with a number; 02 Events has the last two.
 #[derive(Clone, Copy, Debug, PartialEq, Eq)]
 pub enum Act {
     Select,
@@ -19,6 +20,14 @@ pub enum Act {
     Wait,
     Cut,
     Up,
+    Evls,
+    Evhs,
+}
+
+impl Act {
+    /// D177, D188: an act's place here is what names it where a caller has only numbers.
+    pub const ALL: [Act; 8] =
+        [Act::Select, Act::Byte, Act::End, Act::Wait, Act::Cut, Act::Up, Act::Evls, Act::Evhs];
 }
 
 /// 01 Acts: what EEPROM and ID of a fresh chip hold everywhere.

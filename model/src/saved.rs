@@ -1,7 +1,8 @@
 //! The saved form (02 Save): a chip as lines of a key and its numbers, and back. Keys, their order
-//! and the numbers of stage and target are those of D154.
+//! and the numbers of stage and target are those of D154; the last five lines are those of D194.
 
 use crate::chip::*;
+use crate::events::{self, EVEN0, EVEN1, EVENTS};
 
 /// Why nothing was saved or loaded. `line` is 0 but for 8 on loading.
 #[derive(Clone, Copy, Debug, PartialEq, Eq)]
@@ -79,6 +80,11 @@ fn write(part: u64, device: &Device, eeprom: &[u8], id: &[u8]) -> Vec<u8> {
     for (k, bytes) in id.chunks(8).enumerate() {
         line(&format!("id{k}"), &wide(bytes));
     }
+    line("evls", &[d.evls]);
+    line("evhs", &[d.evhs]);
+    line("edges", &[d.edges]);
+    line("since", &[d.since]);
+    line("debounce", &[d.debounce]);
     text
 }
 
@@ -181,9 +187,13 @@ impl<'a> Lines<'a> {
         })
     }
 
+    fn at_end(&self) -> bool {
+        self.rest.is_empty()
+    }
+
     /// Nothing may follow the last line.
     fn end(self) -> Result<(), u64> {
-        if self.rest.is_empty() {
+        if self.at_end() {
             Ok(())
         } else {
             Err(self.number + 1)
@@ -245,8 +255,26 @@ pub fn read(text: &[u8]) -> Result<Chip, u64> {
     for k in 0..ID_LENGTH / 8 {
         chip.id[8 * k..][..8].copy_from_slice(&lines.bytes(&format!("id{k}"))?);
     }
+    // A text from before there were event inputs ends here, and has 0 for all of theirs.
+    if !lines.at_end() {
+        read_events(&mut lines, &mut chip.device)?;
+    }
     lines.end()?;
     Ok(chip)
+}
+
+fn read_events(lines: &mut Lines, d: &mut Device) -> Result<(), u64> {
+    let byte = d.registers[EVENTS];
+    let number = if byte & EVEN1 != 0 { events::number_of_edges(byte) } else { 1 };
+    d.evls = lines.one("evls", |n| n <= 1)?;
+    d.evhs = lines.one("evhs", |n| n <= 1)?;
+    d.edges = lines.one("edges", |n| n < number)?;
+    let window = if d.edges > 0 { events::WINDOW } else { 0 };
+    d.since = lines.one("since", |n| n <= window)?;
+    let runs = byte & EVEN0 != 0 && d.evls == 1;
+    let ticks = if runs { events::debounce_ticks(byte) } else { 0 };
+    d.debounce = lines.one("debounce", |n| n <= ticks)?;
+    Ok(())
 }
 
 fn protection(n: u64) -> Option<Protection> {

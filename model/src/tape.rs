@@ -28,6 +28,8 @@ pub fn parse(line: &[u8]) -> Option<(Op, u64)> {
         b"wait" => Op::Do(Act::Wait),
         b"cut" => Op::Do(Act::Cut),
         b"up" => Op::Do(Act::Up),
+        b"evls" => Op::Do(Act::Evls),
+        b"evhs" => Op::Do(Act::Evhs),
         _ => return None,
     };
     let digits = rest[blank..].strip_prefix(b" arg=")?;

@@ -161,6 +161,63 @@ fn acts_with_many_half_bytes() {
 }
 
 #[test]
+fn acts_with_many_edges_at_the_inputs() {
+    let (mut acts, mut entries) = (0, 0);
+    for seed in 0..100 {
+        let (a, e) = run(seed, &generate::events_tape(seed, 1_000));
+        acts += a;
+        entries += e;
+    }
+    assert!(acts > 90_000, "{acts} acts");
+    assert!(entries > 50, "{entries} entries");
+}
+
+/// Pin acts strewn among the acts of a tape.
+fn with_pins(tape: &[u8], random: &mut generate::Random) -> Vec<u8> {
+    let mut strewn = Vec::new();
+    for line in tape.split(|&b| b == b'\n') {
+        while random.once_in(3) {
+            let pin = random.pick(&["evls", "evhs"]);
+            let number = random.pick(&[0, 0, 1, 1, 1, 2, 256]);
+            strewn.extend(format!("op={pin} arg={number}\n").bytes());
+        }
+        strewn.extend(line);
+        strewn.push(b'\n');
+    }
+    strewn
+}
+
+#[test]
+fn pins_anywhere_in_a_run() {
+    // 02 Events: between any two acts, in frames, in cycles, with power off, refused or not.
+    let mut random = generate::Random::new(61);
+    let (mut acts, mut entries) = (0, 0);
+    for seed in 0..40 {
+        let made = [generate::tape, generate::power_tape, generate::latch_tape][seed as usize % 3];
+        let (a, e) = run(seed, &with_pins(&made(seed, 1_000), &mut random));
+        acts += a;
+        entries += e;
+    }
+    assert!(acts > 50_000, "{acts} acts");
+    assert!(entries > 500, "{entries} entries");
+}
+
+#[test]
+fn a_pin_feeds_the_ledger_nothing() {
+    let mut random = generate::Random::new(62);
+    for _ in 0..500 {
+        let mut ledger = Ledger::of(&generate::chip(&mut random));
+        let before = ledger.clone();
+        for act in [Act::Evls, Act::Evhs] {
+            for number in [0, 1, 2, 255, 256, u64::MAX] {
+                ledger.feed(act, number, 164);
+                assert_eq!(ledger, before, "{act:?} {number}");
+            }
+        }
+    }
+}
+
+#[test]
 fn the_whole_case_by_the_ledger() {
     // 01 Promise: the byte that a chip without any effect would not have.
     let mut ledger = Ledger::new(2);
@@ -347,6 +404,7 @@ fn runs_that_begin_with_any_chip() {
                 (Act::Wait, any),
                 (Act::Up, 0),
                 (if any < 64 { Act::Cut } else { Act::Up }, any),
+                (if any < 128 { Act::Evls } else { Act::Evhs }, any % 3),
             ]);
             let before = told.ledger.entries.len();
             let started = told.ledger.cycle.is_some();
@@ -372,8 +430,11 @@ fn runs_that_begin_with_any_chip() {
 #[test]
 fn runs_that_begin_anew_at_every_act() {
     let mut entries = 0;
-    for seed in 0..24 {
-        let made = [generate::tape, generate::power_tape, generate::latch_tape][seed as usize % 3];
+    for seed in 0..32 {
+        let kinds =
+            [generate::tape, generate::power_tape, generate::latch_tape, generate::events_tape];
+        // The part goes by the seed, and the kind goes on after all parts had their turn.
+        let made = kinds[seed as usize / 4 % 4];
         let mut told = Told::new(1 + seed % 4);
         for line in made(seed, 500).split(|&b| b == b'\n') {
             let Some((Op::Do(act), number)) = parse(line) else { continue };

@@ -544,19 +544,20 @@ fn register_writes_that_cause_something() {
 
 #[test]
 fn bits_of_what_is_left_out() {
-    // 01 Chip: what is left out has bits that are kept and without effect. From 18h on are
-    // time-stamps, of which there are none yet, and which cannot be written.
+    // 01 Chip: what is left out has bits that are kept and without effect. So have the settings of
+    // the event inputs while no pin moves. From 18h on are time-stamps, of which there are none
+    // yet, and which cannot be written.
     let run = |inert: bool| {
         let mut rig = Rig::new(W2K);
         rig.write(0x01, &[0x80]);
         if inert {
             rig.write(0x08, &[0xCF]); // OUT, SQWE, EXTOSC, RS2:RS0
             rig.write(0x09, &[0xFF]); // calibration
-            rig.write(0x0B, &[0xFF]); // event detect
+            rig.write(0x0B, &[0x3F]); // all but the event flags
             rig.write(0x03, &[0x80]); // CALSGN
             rig.write(0x18, &[0xFF; 8]);
             let read = [0x08, 0x09, 0x0B, 0x03, 0x18, 0x1F].map(|address| rig.read(address));
-            assert_eq!(read, [0xCF, 0xFF, 0xFF, 0x80, 0x00, 0x00]);
+            assert_eq!(read, [0xCF, 0xFF, 0x3F, 0x80, 0x00, 0x00]);
         }
         assert_eq!(rig.wait(2_200_000), 2_200_000);
         (rig.device.divider, rig.time()[0..3].to_vec(), rig.lines())

@@ -1,5 +1,5 @@
-//! The random tapes: the same for a seed, as long as asked for, and what power, latch and bits
-//! tapes reach.
+//! The random tapes: the same for a seed, as long as asked for, and what power, latch, bits and
+//! events tapes reach.
 
 mod common;
 use std::collections::BTreeMap;
@@ -8,13 +8,13 @@ use std::fmt::Debug;
 use common::*;
 use model::calendar::{from_bcd, leap};
 use model::chip::{Device, Frame, Lock, Place, Protection};
-use model::generate::{bits_tape, latch_tape, power_tape, tape};
+use model::generate::{bits_tape, events_tape, latch_tape, power_tape, tape};
 use model::tape::{answers, parse, Op};
 use model::Act;
 
 #[test]
 fn seeds_and_lines() {
-    let kinds = [tape, power_tape, latch_tape, bits_tape];
+    let kinds = [tape, power_tape, latch_tape, bits_tape, events_tape];
     for made in kinds {
         for seed in 0..8 {
             let tape = made(seed, 1_000);
@@ -42,6 +42,7 @@ fn tapes_that_are_kept() {
         ("mixed", tape(1, 30_000)),
         ("mixed_latch", latch_tape(4, 3_000)),
         ("mixed_bits", bits_tape(307, 3_000)),
+        ("mixed_events", events_tape(40, 3_000)),
     ] {
         let folder = concat!(env!("CARGO_MANIFEST_DIR"), "/../crates/mcp795/data");
         let kept = std::fs::read(format!("{folder}/{name}.tape")).unwrap();
@@ -405,4 +406,120 @@ fn what_bits_tapes_reach() {
     half_bytes.answered.often();
     half_bytes.mixed.often();
     half_bytes.others.often();
+}
+
+/// What acts of an events tape met.
+#[derive(Default)]
+struct Events(Met);
+
+impl Events {
+    fn pin(&mut self, act: Act, level: u64, before: &Device, after: &Device) {
+        let met = &mut self.0;
+        let byte = before.registers[0x0B];
+        let (was, rises_of_evhs) = match act {
+            Act::Evls => (before.evls, false),
+            _ => (before.evhs, level > before.evhs),
+        };
+        met.count("a level that is there", was == level);
+        met.count("a pin without power", !before.power && was != level);
+        met.count("a pin in a frame", before.frame != Frame::Idle && was != level);
+        met.count("a pin in a cycle", before.countdown > 0 && was != level);
+        let oscon = before.start_up == 32;
+        if act == Act::Evls {
+            met.count("a rise without EVEN0", level > was && byte & 0x10 == 0);
+            met.count("a rise of EVLS with EVLIF", level > was && byte & 0x40 != 0);
+            met.count("a rise of EVLS without OSCON", level > was && !oscon && byte & 0x10 != 0);
+            met.count("the short debounce", after.debounce == 1_024 && level > was);
+            met.count("the long debounce", after.debounce == 16_384 && level > was);
+            met.count("a fall in the debounce", before.debounce > 0 && level < was);
+            met.count("a fall in its last tick", before.debounce == 1 && level < was);
+            return;
+        }
+        met.count("a rise without EVEN1", rises_of_evhs && byte & 0x20 == 0);
+        met.count("a rise of EVHS with EVHIF", rises_of_evhs && byte & 0x80 != 0);
+        met.count("a rise of EVHS without OSCON", rises_of_evhs && !oscon && byte & 0x20 != 0);
+        let edges = (byte & 3, after.registers[0x0B] & !byte & 0x80 != 0);
+        met.count("EVHIF by 1 edge", edges == (0, true));
+        met.count("EVHIF by 4 edges", edges == (1, true));
+        met.count("EVHIF by 16 edges", edges == (2, true));
+        met.count("EVHIF by 32 edges", edges == (3, true));
+        met.count("EVHIF at the last tick", edges.1 && before.since == 8_192);
+        met.count("EVHIF with EVLIF set", edges.1 && byte & 0x40 != 0);
+        let zeroed = byte & 0x08 != 0 && before.watchdog > 0;
+        met.count("EVWDT by a rise", zeroed && level > was);
+        met.count("EVWDT by a fall", zeroed && level < was);
+        let last = before.watchdog + 1 == 32 && before.registers[0x0A] & 0x87 == 0x80;
+        met.count("EVWDT in the last tick", zeroed && level != was && last);
+        met.count("EVWDT in the pulse", byte & 0x08 != 0 && before.pulse > 0 && level != was);
+    }
+
+    fn wait(&mut self, ticks: u64, before: &Device, after: &Device) {
+        let met = &mut self.0;
+        let set = after.registers[0x0B] & !before.registers[0x0B] & 0x40 != 0;
+        met.count("EVLIF", set);
+        met.count("EVLIF with IRQ low before", set && !before.irq());
+        met.count(
+            "EVLIF by an alarm's IRQ",
+            set && before.registers[0x0B] & 0xC0 == 0 && !before.irq(),
+        );
+        met.count("EVLIF after one tick", set && ticks == 1);
+        met.count("EVLIF without power", set && !before.power);
+        met.count("edges that are forgotten", before.edges > 0 && after.edges == 0);
+        met.count(
+            "edges forgotten by one tick more",
+            before.since + ticks == 8_193 && after.edges == 0,
+        );
+        met.count("edges at the last tick", before.since + ticks == 8_192 && after.edges > 0);
+        let counts = after.edges > 0 || after.debounce > 0;
+        met.count("counts that stand", counts && ticks > 0 && before.start_up < 32);
+        let alarm = [0x0F, 0x16]
+            .iter()
+            .any(|&day| after.registers[day] & !before.registers[day] & 0x08 != 0);
+        met.count("an alarm while a flag is set", alarm && before.registers[0x0B] & 0xC0 != 0);
+        met.count("an alarm while none is set", alarm && before.registers[0x0B] & 0xC0 == 0);
+    }
+
+    fn act(&mut self, act: Act, number: u64, before: &Device, rig: &mut Rig) {
+        let answer = rig.act(act, number);
+        let after = &rig.device;
+        let counts = before.edges > 0 || before.debounce > 0;
+        let battery = before.registers[4] & 0x08 != 0;
+        match (act, answer.number, before.frame) {
+            (Act::Evls | Act::Evhs, 0, _) => self.pin(act, number, before, after),
+            (Act::Evls | Act::Evhs, 3, _) => self.0.count("a pin refused by 3", true),
+            (Act::Evls | Act::Evhs, refused, _) => panic!("a pin refused by {refused}"),
+            (Act::Wait, 0, _) => self.wait(answer.count, before, after),
+            (Act::Cut, 0, _) => {
+                self.0.count("a cut with counts and battery", counts && battery);
+                self.0.count("a cut with counts, without battery", counts && !battery);
+                self.0.count("a cut with a level high", before.evls + before.evhs > 0);
+            }
+            (Act::Byte, 0, Frame::Writing(Place::Clock(0x0B))) => {
+                self.0.count("a write of 0Bh with counts", counts);
+                self.0.count("a write of a flag", number & 0xC0 != 0);
+                self.0.count(
+                    "a write that clears a flag",
+                    before.registers[0x0B] & !(number as u8) & 0xC0 != 0,
+                );
+            }
+            (Act::Byte, 0, Frame::Writing(Place::Clock(0x01))) => {
+                self.0.count("ST cleared with counts", counts && number & 0x80 == 0);
+            }
+            _ => {}
+        }
+    }
+}
+
+#[test]
+fn what_events_tapes_reach() {
+    let mut events = Events::default();
+    for seed in 0..100 {
+        let mut rig = Rig::new(1 + seed % 4);
+        for line in events_tape(seed, 400).split(|&b| b == b'\n') {
+            let Some((Op::Do(act), number)) = parse(line) else { continue };
+            let before = rig.device.clone();
+            events.act(act, number, &before, &mut rig);
+        }
+    }
+    events.0.often();
 }

@@ -61,6 +61,7 @@ fn a_random_tape() {
         ("--generate-power", model::generate::power_tape(3, 100)),
         ("--generate-latch", model::generate::latch_tape(3, 100)),
         ("--generate-bits", model::generate::bits_tape(3, 100)),
+        ("--generate-events", model::generate::events_tape(3, 100)),
     ] {
         let output = model(&[option, "3", "100"], b"");
         assert_eq!(output.stdout, tape);
@@ -70,7 +71,13 @@ fn a_random_tape() {
 
 #[test]
 fn wrong_use_of_an_option() {
-    for option in ["--generate", "--generate-power", "--generate-latch", "--generate-bits"] {
+    for option in [
+        "--generate",
+        "--generate-power",
+        "--generate-latch",
+        "--generate-bits",
+        "--generate-events",
+    ] {
         for words in [&[][..], &["3"], &["3", "100", "1"], &["3", "many"], &["-1", "100"]] {
             let output = model(&[&[option], words].concat(), b"");
             let told = String::from_utf8(output.stderr).unwrap();
@@ -129,8 +136,11 @@ fn a_bad_file_is_not_run() {
         (String::new(), 1),
         (text.replace("reg2=0", "reg2=128"), 4),
         (text.replace("next=0\n", ""), 55),
-        (format!("{text}\n"), 76),
-        (text.trim_end().to_string(), 75),
+        (text.replace("evls=0", "evls=2"), 76),
+        (text.replace("evhs=0\n", ""), 77),
+        (text.replace("debounce=0\n", ""), 80),
+        (format!("{text}\n"), 81),
+        (text.trim_end().to_string(), 80),
     ] {
         let name = file("bad_run_bad.chip", bad.as_bytes());
         let output = model(&["--load", &name, "--save", &to], b"op=select arg=0\n");
@@ -143,6 +153,24 @@ fn a_bad_file_is_not_run() {
     let output = model(&["--load", &none], b"op=select arg=0\n");
     assert!(told(&output).starts_with(&format!("model: {none}: ")));
     assert!(!output.status.success() && output.stdout.is_empty());
+}
+
+#[test]
+fn a_chip_from_before_the_event_inputs() {
+    // It is loaded, goes on, and is saved with their lines.
+    let (old, new) = (no_file("old_form.chip"), no_file("new_form.chip"));
+    model(&["--save", &new], b"op=part arg=1\n");
+    let text = fs::read_to_string(&new).unwrap();
+    let (before, lines) = text.split_at(text.find("evls=").unwrap());
+    assert_eq!(lines, "evls=0\nevhs=0\nedges=0\nsince=0\ndebounce=0\n");
+    fs::write(&old, before).unwrap();
+    let output = model(&["--load", &old, "--save", &new], b"op=evhs arg=1\n");
+    assert_eq!(output.stdout, DONE.as_bytes());
+    assert!(output.status.success() && output.stderr.is_empty());
+    assert_eq!(fs::read_to_string(&new).unwrap(), text.replace("evhs=0", "evhs=1"));
+    let output = model(&["--load", &old, "--save", &old], b"");
+    assert!(output.status.success());
+    assert_eq!(fs::read_to_string(&old).unwrap(), text);
 }
 
 #[test]

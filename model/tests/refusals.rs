@@ -6,10 +6,8 @@ use common::*;
 use model::chip::{Code, Device, Frame, Lock, Place, Protection, Target, TooLong, Two};
 use model::Act;
 
-const ACTS: [Act; 6] = [Act::Select, Act::Byte, Act::End, Act::Wait, Act::Cut, Act::Up];
-
 fn refused_by_all(rig: &mut Rig, number: u64) {
-    for act in ACTS {
+    for act in Act::ALL {
         rig.refused(act, 0, number);
     }
 }
@@ -372,6 +370,8 @@ fn fresh_as_the_paper_has_it() {
         (d.divider, d.start_up, d.countdown, d.watchdog, d.delay, d.pulse),
         (0, 0, 0, 0, 0, 0)
     );
+    // 02 Events: both inputs low, and nothing counted.
+    assert_eq!((d.evls, d.evhs, d.edges, d.since, d.debounce), (0, 0, 0, 0, 0));
     assert_eq!(rig.status(), 0);
     assert_eq!(rig.frame(&[0x03, 0x00, 0])[2], Some(0xFF));
     assert_eq!(rig.frame(&[0x33, 0x00, 0])[2], Some(0xFF));

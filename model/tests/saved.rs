@@ -1,5 +1,5 @@
-//! 02 Save: a chip as text and back. What is expected is written from D154 to D159: texts by hand,
-//! limits from both sides, the first bad line of spoiled texts, and runs that are cut in two.
+//! 02 Save: a chip as text and back. What is expected is written from D154 to D159 and D194: texts
+//! by hand, limits from both sides, the first bad line of spoiled texts, and runs that are cut in two.
 
 mod common;
 use std::collections::{BTreeMap, HashSet};
@@ -88,7 +88,16 @@ ee14=255,255,255,255,255,255,255,255
 ee15=255,255,255,255,255,255,255,255
 id0=255,255,255,255,255,255,255,255
 id1=255,255,255,255,255,255,255,255
+evls=0
+evhs=0
+edges=0
+since=0
+debounce=0
 ";
+
+/// The lines behind `id`, of which a text may have none.
+const EVENT_LINES: usize = 5;
+const NO_EVENTS: &str = "evls=0\nevhs=0\nedges=0\nsince=0\ndebounce=0\n";
 
 /// A text as lines without their newlines.
 #[derive(Clone)]
@@ -100,7 +109,7 @@ impl Text {
         lines[0] = format!("part={part}");
         if part % 2 == 0 {
             for k in 16..32 {
-                let at = lines.len() - 2;
+                let at = lines.len() - 2 - EVENT_LINES;
                 lines.insert(at, format!("ee{k}=255,255,255,255,255,255,255,255"));
             }
         }
@@ -129,6 +138,11 @@ impl Text {
         let place = self.place(key);
         text.0[place] = format!("{key}={numbers}");
         text
+    }
+
+    /// As it was before there were event inputs.
+    fn without_events(&self) -> Text {
+        Text(self.0[..self.0.len() - EVENT_LINES].to_vec())
     }
 
     fn bytes(&self) -> Vec<u8> {
@@ -178,7 +192,7 @@ fn saved(rig: &Rig) -> Text {
 fn fresh_chips() {
     for part in 1..=4 {
         let text = Text::fresh(part);
-        assert_eq!(text.0.len(), if part % 2 == 1 { 75 } else { 91 });
+        assert_eq!(text.0.len(), if part % 2 == 1 { 80 } else { 96 });
         let rig = Rig::new(part);
         let written = save(part, &rig.device, &rig.eeprom, &rig.id, usize::MAX).unwrap();
         assert_eq!(String::from_utf8(written), String::from_utf8(text.bytes()), "part {part}");
@@ -374,6 +388,94 @@ fn limits_of_single_numbers() {
             }
         }
     }
+}
+
+#[test]
+fn limits_of_the_event_inputs() {
+    // D194. Bits 1:0 of 0Bh set 1, 4, 16 or 32 edges, bit 2 the debounce; 5 and 4 enable.
+    for byte in 0..=255_u64 {
+        let set = Text::fresh(1 + byte % 4).with("reg11", &byte.to_string());
+        limits(&set, "evls", &[0, 1], &[2, 3, 10]);
+        limits(&set, "evhs", &[0, 1], &[2, 3, 10]);
+        let number = [1, 4, 16, 32][byte as usize % 4];
+        let (high_speed, low_speed) = (byte & 0x20 != 0, byte & 0x10 != 0);
+        match high_speed {
+            true => limits(&set, "edges", &[0, number - 1], &[number, number + 1, 99]),
+            false => limits(&set, "edges", &[0], &[1, number]),
+        }
+        limits(&set, "since", &[0], &[1, 8_192, 8_193]);
+        if high_speed && number > 1 {
+            let counted = set.with("edges", &(number - 1).to_string());
+            limits(&counted, "since", &[0, 1, 8_191, 8_192], &[8_193, 8_194, 81_920]);
+        }
+        let ticks = if byte & 0x04 == 0 { 1_024 } else { 16_384 };
+        limits(&set, "debounce", &[0], &[1, ticks]);
+        let high = set.with("evls", "1").with("evhs", "1");
+        match low_speed {
+            true => limits(&high, "debounce", &[0, 1, ticks], &[ticks + 1, 10 * ticks]),
+            false => limits(&high, "debounce", &[0], &[1, ticks]),
+        }
+    }
+}
+
+#[test]
+fn a_text_from_before_the_event_inputs() {
+    // It ends behind the last line of the ID, and nowhere else before its end. It is loaded with
+    // five zeros and written with them.
+    let mut random = Random::new(49);
+    for _ in 0..200 {
+        let chip = chip(&mut random);
+        let whole = Text::of(&text_of(&chip));
+        let older = whole.without_events();
+        let loaded = read(&older.bytes()).unwrap();
+        let mut expected = chip.clone();
+        let d = &mut expected.device;
+        (d.evls, d.evhs, d.edges, d.since, d.debounce) = (0, 0, 0, 0, 0);
+        assert_eq!(loaded, expected);
+        assert_eq!(text_of(&loaded), [&older.bytes()[..], NO_EVENTS.as_bytes()].concat());
+        assert_eq!(good(&Text::of(&text_of(&loaded))), expected);
+        // Every number of lines, with the last newline and without it.
+        let lines = whole.0.len();
+        for kept in 0..=lines {
+            let begun = Text(whole.0[..kept].to_vec()).bytes();
+            let ends = kept == lines || kept == lines - EVENT_LINES;
+            assert_eq!(read(&begun).err(), (!ends).then_some(kept as u64 + 1));
+            if kept > 0 {
+                assert_eq!(read(&begun[..begun.len() - 1]).err(), Some(kept as u64));
+            }
+            if kept < lines {
+                assert_eq!(read(&[&begun[..], b"\n"].concat()).err(), Some(kept as u64 + 1));
+            }
+        }
+        // The lines cannot stand without those before them.
+        for missing in lines - EVENT_LINES..lines {
+            let mut text = whole.clone();
+            text.0.remove(missing);
+            assert_eq!(read(&text.bytes()), Err(missing as u64 + 1));
+        }
+    }
+}
+
+#[test]
+fn the_event_inputs_in_the_text() {
+    let mut rig = Rig::new(W1K);
+    rig.start_at([0, 0, 0, 0, 1, 1, 1, 0]);
+    rig.write(0x0B, &[0x32]);
+    rig.evls(1);
+    rig.wait(24);
+    for level in [1, 0, 1, 0, 1] {
+        rig.evhs(level);
+    }
+    rig.wait(300);
+    let text = saved(&rig);
+    let last = ["evls=1", "evhs=1", "edges=3", "since=300", "debounce=700"];
+    assert_eq!(text.0[text.0.len() - EVENT_LINES..], last);
+    assert_eq!(text.line("reg11"), "reg11=50");
+    // What was saved goes on as it would have.
+    let chip = good(&text);
+    let mut next = Rig { part: 1, device: chip.device, eeprom: chip.eeprom, id: chip.id.to_vec() };
+    assert_eq!(next, rig);
+    assert_eq!((next.wait(10_000), next.read(0x0B)), (700, 0x72));
 }
 
 #[test]
@@ -626,6 +728,11 @@ fn put(d: &mut Device, key: &str, n: u64) {
         "left" => d.countdown = n,
         "stage" => d.frame = Frame::Writing(Place::Eeprom(n)),
         "target" => d.target = Target::Eeprom(n),
+        "evls" => d.evls = n,
+        "evhs" => d.evhs = n,
+        "edges" => d.edges = n,
+        "since" => d.since = n,
+        "debounce" => d.debounce = n,
         _ => {
             let register: usize = key.strip_prefix("reg").unwrap().parse().unwrap();
             d.registers[register] = n as u8;
@@ -644,6 +751,7 @@ fn lines_are_judged_as_number_6_judges() {
         ["divider", "startup", "watchdog", "delay", "pulse", "power", "mark"].map(String::from),
     );
     keys.extend(["stage", "next", "target", "left"].map(String::from));
+    keys.extend(["evls", "evhs", "edges", "since", "debounce"].map(String::from));
     for _ in 0..40 {
         let text = Text::of(&text_of(&chip(&mut random)));
         for key in &keys {
@@ -655,6 +763,10 @@ fn lines_are_judged_as_number_6_judges() {
                 "power" | "mark" => &[0, 1],
                 "stage" | "target" => &[0, 127, 128, 255, 256, near],
                 _ if key.starts_with("reg") => &[0, 1, 32, 64, 128, 255, near % 256],
+                "evls" | "evhs" => &[0, 1, 2, 3, 256],
+                "edges" => &[0, 1, 3, 4, 15, 16, 31, 32, 33],
+                "since" => &[0, 1, 8_191, 8_192, 8_193, near],
+                "debounce" => &[0, 1, 1_024, 1_025, 16_384, 16_385, near],
                 _ => &[0, 1, 7, 8, 32, 33, 164, 165, near - 1, near, near + 1],
             };
             for &n in numbers {
@@ -726,6 +838,14 @@ fn round_trips() {
             ("a pulse", d.pulse > 0),
             ("a delay", d.delay > 0),
             ("the lock open", d.lock == Lock::Open),
+            ("EVLS high", d.evls == 1),
+            ("EVHS high", d.evhs == 1),
+            ("an edge", d.edges > 0),
+            ("ticks since the first", d.since > 0),
+            ("debounce", d.debounce > 0),
+            ("EVHIF and edges", d.edges > 0 && d.registers[0x0B] & 0x80 != 0),
+            ("EVWDT and edges", d.edges > 0 && d.registers[0x0B] & 0x08 != 0),
+            ("EVLIF and debounce", d.debounce > 0 && d.registers[0x0B] & 0x40 != 0),
         ] {
             *met.entry(name).or_default() += u64::from(is_met);
         }
@@ -797,6 +917,7 @@ fn loading_is_refused_in_order() {
 fn first_bad(way: Way, line: u64, lines: u64) -> Option<u64> {
     Some(match way {
         Way::Missing | Way::EmptyLine | Way::EndsBefore | Way::EndsInside | Way::NoNewline => line,
+        Way::Older => return None,
         Way::Doubled => line + 1,
         Way::Swapped if line == lines => 1, // with the first
         Way::Swapped => line,
@@ -819,10 +940,15 @@ fn first_bad(way: Way, line: u64, lines: u64) -> Option<u64> {
     })
 }
 
-/// What holds of every text: a good one is the text of its chip. Of a bad one the lines before the
-/// bad one are the beginning of a good one, and no line is bad that is not there or does not end.
+/// What holds of every text: a good one is the text of its chip, or has all of it but the last five
+/// lines, which are 0. Of a bad one the lines before the bad one are the beginning of a good one, and
+/// no line is bad that is not there or does not end.
 fn judged(text: &[u8], like: &Text) -> Option<u64> {
     match read(text) {
+        Ok(chip) if text_of(&chip).len() > text.len() => {
+            assert_eq!(text_of(&chip), [text, NO_EVENTS.as_bytes()].concat());
+            None
+        }
         Ok(chip) => {
             assert_eq!(text_of(&chip), text);
             None
@@ -852,7 +978,7 @@ fn judged(text: &[u8], like: &Text) -> Option<u64> {
 #[test]
 fn the_first_bad_line_of_spoiled_texts() {
     let mut random = Random::new(44);
-    let (mut goods, mut bads) = (0, 0);
+    let (mut goods, mut bads, mut ends) = (0, 0, 0);
     for _ in 0..2 {
         let text = text_of(&chip(&mut random));
         let like = Text::of(&text);
@@ -861,7 +987,12 @@ fn the_first_bad_line_of_spoiled_texts() {
             for way in Way::ALL {
                 let spoiled = spoil(&mut random, &text, line as usize - 1, way);
                 let found = judged(&spoiled, &like);
-                if let Some(expected) = first_bad(way, line, lines) {
+                // What ends just before the event inputs' lines is good.
+                if like.without_events().bytes() == spoiled {
+                    assert!(found.is_none());
+                    assert!(way == Way::Older || line == like.number("evls"));
+                    ends += u64::from(way != Way::Older);
+                } else if let Some(expected) = first_bad(way, line, lines) {
                     let shown = String::from_utf8_lossy(&spoiled);
                     assert_eq!(found, Some(expected), "{way:?} at {line} of\n{shown}");
                 }
@@ -872,7 +1003,7 @@ fn the_first_bad_line_of_spoiled_texts() {
             }
         }
     }
-    assert!(goods > 100 && bads > 7_000, "{goods} good, {bads} bad");
+    assert!(goods > 100 && bads > 7_000 && ends >= 2, "{goods} good, {bads} bad, {ends} short");
 }
 
 #[test]
@@ -896,8 +1027,12 @@ fn generated_texts() {
 fn a_text_cut_at_every_byte() {
     for text in [Text::fresh(1).bytes(), text_of(&chip(&mut Random::new(45)))] {
         let mut line = 1;
+        let older = Text::of(&text).without_events().bytes().len();
         for end in 0..text.len() {
-            assert_eq!(eight(read(&text[..end])), line);
+            match read(&text[..end]) {
+                Ok(_) => assert_eq!(end, older),
+                Err(bad) => assert_eq!((bad, end == older), (line, false)),
+            }
             line += u64::from(text[end] == b'\n');
         }
         assert!(read(&text).is_ok());
@@ -908,7 +1043,7 @@ fn a_text_cut_at_every_byte() {
 fn every_byte_at_every_place_of_some_lines() {
     // One byte put in, for all 256; what is good is written again as it was.
     let text = Text::fresh(B1K);
-    for key in ["part", "reg1", "stage", "left"] {
+    for key in ["part", "reg1", "stage", "left", "evls", "debounce"] {
         let place = text.place(key);
         let start: usize = text.0[..place].iter().map(|line| line.len() + 1).sum();
         for at in 0..=text.0[place].len() {
@@ -939,7 +1074,9 @@ fn any_bytes_of_any_length() {
         let head: &[u8] = b"part=1\nreg0=";
         assert_eq!(read(&[head, &long].concat()), Err(2));
         assert_eq!(read(&[head, &long, b"\n"].concat()), Err(2));
-        assert_eq!(read(&[FRESH.as_bytes(), &long].concat()), Err(76));
+        assert_eq!(read(&[FRESH.as_bytes(), &long].concat()), Err(81));
+        let older = Text::fresh(1).without_events().bytes();
+        assert_eq!(read(&[&older[..], &long].concat()), Err(76));
     }
     // A number that is 0 or 1 in some count of bits.
     for n in ["256", "65536", "4294967296", "18446744073709551616"] {
@@ -1020,8 +1157,13 @@ fn resumed(tape: &Tape) -> Option<Tape> {
 
 type Made = fn(u64, u64) -> Vec<u8>;
 
-const MADE: [Made; 4] =
-    [generate::tape, generate::power_tape, generate::latch_tape, generate::bits_tape];
+const MADE: [Made; 5] = [
+    generate::tape,
+    generate::power_tape,
+    generate::latch_tape,
+    generate::bits_tape,
+    generate::events_tape,
+];
 
 #[test]
 fn a_run_cut_in_two_at_every_line() {
@@ -1080,6 +1222,11 @@ fn kept_tapes_resumed_at_every_line() {
         "time_stamp_in_a_write_cycle",
         "watchdog_pulses",
         "drum_stood_still",
+        "window_at_its_last_tick",
+        "window_a_tick_too_long",
+        "bounce_during_debounce",
+        "events_on_the_battery",
+        "levels_kept_over_a_cut",
     ] {
         let tape = std::fs::read(format!("{folder}/{name}.tape")).unwrap();
         let (whole, _) = fed(Tape::new(), &tape);
@@ -1169,6 +1316,8 @@ fn what_plain_drops_cannot_be_told() {
                 (Act::Wait, 3),
                 (Act::Cut, byte),
                 (Act::Up, 0),
+                (Act::Evls, leftover & 1),
+                (Act::Evhs, leftover & 1),
             ]);
             if act == Act::Cut && !random.once_in(4) {
                 continue;

@@ -42,5 +42,6 @@ void test_refusals(void);
 void test_states(void);
 void test_saved(void);
 void test_time(void);
+void test_events(void);
 
 #endif

@@ -90,6 +90,7 @@ int main(void)
     test_states();
     test_saved();
     test_time();
+    test_events();
     if (failed != 0) {
         printf("%lu checks failed, %lu passed\n", failed, passed);
         return 1;

@@ -8,7 +8,7 @@
 /* A chip on the bare functions, with room around each array that no call may touch. */
 typedef struct fenced {
     uint8_t fence0[16];
-    uint8_t state[MCP795_STATE + 19]; /* 19: then the struct has no gaps */
+    uint8_t state[MCP795_STATE + 10]; /* 10: then the struct has no gaps */
     uint8_t eeprom[256 + 16];
     uint8_t id[MCP795_ID_SIZE + 16];
     uint64_t answer[MCP795_ANSWER];
@@ -62,8 +62,8 @@ static void done(int line, fenced *chip, uint64_t act, uint64_t number)
 
 static void by_act(void)
 {
-    static const uint64_t none[] = {6, 7, 8, 9, 255, 256, 257, 65536, UINT64_C(1) << 32, (UINT64_C(1) << 32) + 3, UINT64_C(1) << 63,
-                                    MOST};
+    static const uint64_t none[] = {8, 9, 255, 256, 257, 262, 65536, UINT64_C(1) << 32, (UINT64_C(1) << 32) + 3,
+                                    (UINT64_C(1) << 32) + 6, UINT64_C(1) << 63, MOST};
     fenced chip = new_chip(MCP795_PART_W2K);
     size_t at;
     uint64_t act;
@@ -92,7 +92,7 @@ static void by_act(void)
         REFUSED(&chip, 256, 16, none[at], 1, 3, 1);
         REFUSED(&chip, 256, 16, none[at], MOST, 3, 1);
     }
-    for (act = MCP795_ACT_UP + 1; act < 300; act++) {
+    for (act = MCP795_ACT_EVHS + 1; act < 300; act++) {
         check_in("act", act, 0);
         REFUSED(&chip, 256, 16, act, 0, 3, 1);
     }
@@ -121,11 +121,43 @@ static void by_act(void)
     REFUSED(&chip, 256, 16, MCP795_ACT_END, 8, 3, 1);
     REFUSED(&chip, 256, 16, MCP795_ACT_CUT, 256, 3, 1);
     REFUSED(&chip, 256, 16, MCP795_ACT_UP, 1, 3, 1);
-    REFUSED(&chip, 256, 16, 6, 0, 3, 1);
+    REFUSED(&chip, 256, 16, 8, 0, 3, 1);
     DONE(&chip, MCP795_ACT_WAIT, 5);
     DONE(&chip, MCP795_ACT_UP, 0);
     DONE(&chip, MCP795_ACT_WAIT, MCP795_WAIT_MAX);
     CHECK(chip.answer[3], MCP795_WAIT_MAX);
+}
+
+/* V1: a pin takes 0 and 1 and nothing else, with a frame open, without one, and without power; it is never refused by 1, 2 or 5. */
+static void by_pin(void)
+{
+    static const uint64_t pins[] = {MCP795_ACT_EVLS, MCP795_ACT_EVHS};
+    static const uint64_t wrong[] = {2, 3, 7, 8, 255, 256, 257, 65536, UINT64_C(1) << 32, (UINT64_C(1) << 32) + 1,
+                                     UINT64_C(1) << 63, MOST};
+    static const size_t places[] = {MCP795_AT_EVLS, MCP795_AT_EVHS};
+    size_t pin, at;
+    int stage;
+    for (pin = 0; pin < 2; pin++) {
+        fenced chip = new_chip(MCP795_PART_B2K);
+        for (stage = 0; stage < 3; stage++) {
+            check_in("pin, stage", pins[pin], (uint64_t)stage);
+            for (at = 0; at < sizeof wrong / sizeof wrong[0]; at++) REFUSED(&chip, 256, 16, pins[pin], wrong[at], 3, 1);
+            DONE(&chip, pins[pin], 1);
+            CHECK(chip.state[places[pin]], 1);
+            for (at = 0; at < sizeof wrong / sizeof wrong[0]; at++) REFUSED(&chip, 256, 16, pins[pin], wrong[at], 3, 1);
+            DONE(&chip, pins[pin], 1);
+            DONE(&chip, pins[pin], 0);
+            CHECK(chip.state[places[pin]], 0);
+            for (at = 1; at <= 3; at++) CHECK(chip.answer[at], 0);
+            if (stage == 0) DONE(&chip, MCP795_ACT_SELECT, 0);
+            if (stage == 1) DONE(&chip, MCP795_ACT_CUT, 0);
+        }
+        /* 4 and 6 come before it */
+        REFUSED(&chip, 128, 16, pins[pin], 1, 4, 1);
+        chip.state[places[pin]] = 2;
+        REFUSED(&chip, 256, 16, pins[pin], 0, 6, 1);
+    }
+    check_in(NULL, 0, 0);
 }
 
 /* Rows that judge no act come first: 3 for the part, 4, 6. */
@@ -151,7 +183,7 @@ static void by_setup(void)
         REFUSED(&chip, sizes[at][0], sizes[at][1], MCP795_ACT_SELECT, 0, 4, 1);
         spoiled = chip;
         set_count(spoiled.state, MCP795_AT_DIVIDER, MOST);
-        REFUSED(&spoiled, sizes[at][0], sizes[at][1], 6, MOST, 4, 1);
+        REFUSED(&spoiled, sizes[at][0], sizes[at][1], 8, MOST, 4, 1);
     }
     check_in(NULL, 0, 0);
     spoiled = new_chip(MCP795_PART_B1K);
@@ -163,7 +195,7 @@ static void by_setup(void)
     spoiled.state[MCP795_AT_LEFT] = 165;
     REFUSED(&spoiled, 256, 16, MCP795_ACT_WAIT, 0, 6, 1);
     REFUSED(&spoiled, 256, 16, MCP795_ACT_WAIT, MOST, 6, 1);
-    REFUSED(&spoiled, 256, 16, 6, 0, 6, 1);
+    REFUSED(&spoiled, 256, 16, 8, 0, 6, 1);
     REFUSED(&spoiled, 256, 16, MCP795_ACT_UP, 0, 6, 1);
     REFUSED(&spoiled, 256, 16, MCP795_ACT_BYTE, 0, 6, 1);
     spoiled = chip;
@@ -171,10 +203,11 @@ static void by_setup(void)
     REFUSED(&spoiled, 256, 16, MCP795_ACT_SELECT, 0, 6, 1);
 }
 
-/* A state of another size than the library's: 3 if it has not even a part, else 6, and 4 before that. */
+/* A state of another size than the library's: 3 if it has not even a part, else 6, and 4 before that. 133 is that of the headers
+ * that knew no event inputs. */
 static void by_state_size(void)
 {
-    static const size_t sizes[] = {0, 1, 2, 97, 123, MCP795_STATE - 1, MCP795_STATE + 1, MCP795_STATE + 19};
+    static const size_t sizes[] = {0, 1, 2, 97, 123, 133, MCP795_STATE - 1, MCP795_STATE + 1, MCP795_STATE + 10};
     static const size_t memories[][2] = {{128, 16}, {256, 15}, {0, 0}};
     const fenced whole = new_chip(MCP795_PART_W2K);
     size_t at, k;
@@ -184,7 +217,7 @@ static void by_state_size(void)
         const uint64_t by = sizes[at] == 0 ? 3 : 6;
         fenced chip = whole, before;
         check_in("state size", sizes[at], 0);
-        for (act = 0; act <= 6; act++) {
+        for (act = 0; act <= 8; act++) {
             REFUSED_STATE(&chip, sizes[at], 256, 16, act, 0, by);
             REFUSED_STATE(&chip, sizes[at], 256, 16, act, MOST, by);
         }
@@ -226,7 +259,8 @@ static void lines_of_a_refused_act(void)
     REFUSED(&chip, 256, 16, MCP795_ACT_BYTE, 0, 2, 0);
     REFUSED(&chip, 256, 16, MCP795_ACT_END, 9, 3, 0);
     REFUSED(&chip, 256, 16, MCP795_ACT_UP, 0, 5, 0);
-    REFUSED(&chip, 256, 16, 6, 0, 3, 0);
+    REFUSED(&chip, 256, 16, 8, 0, 3, 0);
+    REFUSED(&chip, 256, 16, MCP795_ACT_EVHS, 2, 3, 0);
     REFUSED(&chip, 128, 16, MCP795_ACT_WAIT, 0, 4, 1);
     REFUSED(&chip, 256, 15, MCP795_ACT_BYTE, 0, 4, 1);
     REFUSED_STATE(&chip, MCP795_STATE + 1, 256, 16, MCP795_ACT_WAIT, 0, 6);
@@ -288,7 +322,9 @@ static void by_name(void)
     CHECK_ANSWER(mcp795_end(&chip, 8), 3, false, 0, 0, true, true);
     CHECK_ANSWER(mcp795_wait(&chip, MCP795_WAIT_MAX + 1), 3, false, 0, 0, true, true);
     CHECK_ANSWER(mcp795_up(&chip), 5, false, 0, 0, true, true);
-    CHECK_ANSWER(mcp795_do(&chip, 6, 0), 3, false, 0, 0, true, true);
+    CHECK_ANSWER(mcp795_set_evls(&chip, 2), 3, false, 0, 0, true, true);
+    CHECK_ANSWER(mcp795_set_evhs(&chip, 2), 3, false, 0, 0, true, true);
+    CHECK_ANSWER(mcp795_do(&chip, 8, 0), 3, false, 0, 0, true, true);
     CHECK_BYTES(&chip, &before, sizeof chip);
     CHECK_DONE(mcp795_select(&chip));
     CHECK_ANSWER(mcp795_select(&chip), 1, false, 0, 0, true, true);
@@ -315,6 +351,7 @@ static void words(void)
 void test_refusals(void)
 {
     by_act();
+    by_pin();
     by_setup();
     by_state_size();
     lines_of_a_refused_act();

@@ -1,4 +1,5 @@
-/* A chip copied, and a chip as text. Expected are the README's table of bad files, and D154 to D158 of docs/DECISIONS.md. */
+/* A chip copied, and a chip as text. Expected are the README's table of bad files, and D154 to D158 and D194 of
+ * docs/DECISIONS.md. */
 #include "check.h"
 
 #include <stdio.h>
@@ -7,7 +8,7 @@
 #define ROOM 4096
 
 /* Of a state, the library's own apart; none above 256. */
-static const size_t other_sizes[] = {0, 1, 123, MCP795_STATE - 1, MCP795_STATE + 1, 256};
+static const size_t other_sizes[] = {0, 1, 123, 133, MCP795_STATE - 1, MCP795_STATE + 1, 256};
 
 /* A text with its size; room enough to spoil it. */
 typedef struct saved {
@@ -52,7 +53,7 @@ static bool has_line(const saved *of, size_t number, const char *line)
     return to - from == strlen(line) && memcmp(of->text + from, line, to - from) == 0;
 }
 
-/* D154: the whole text of a fresh chip. */
+/* D154, D194: the whole text of a fresh chip. */
 static void fresh_text(uint64_t part)
 {
     saved expected, found;
@@ -66,6 +67,7 @@ static void fresh_text(uint64_t part)
     to += sprintf(to, "offsets=0\nload=0,0,0,0,0,0,0,0\nnext=0\ntarget=0,0\nleft=0\n");
     for (k = 0; k < (part % 2 == 1 ? 16 : 32); k++) to += sprintf(to, "ee%d=255,255,255,255,255,255,255,255\n", k);
     for (k = 0; k < 2; k++) to += sprintf(to, "id%d=255,255,255,255,255,255,255,255\n", k);
+    to += sprintf(to, "evls=0\nevhs=0\nedges=0\nsince=0\ndebounce=0\n");
     expected.size = (size_t)(to - expected.text);
     CHECK(mcp795_init(&chip, part), 0);
     found = text_of(&chip);
@@ -115,7 +117,7 @@ static void copied_in_a_write(void)
 /* What is saved is loaded as it was, for each part, whatever was there before; and saved again it is the same text. */
 static void round_trip(void)
 {
-    static const uint8_t clock[] = {MCP795_WRITE, 0x00, 0x99, 0xD9, 0x59, 0x23, 0x0F, 0x28, 0x02, 0x24, 0x30, 0, 0xB7};
+    static const uint8_t clock[] = {MCP795_WRITE, 0x00, 0x99, 0xD9, 0x59, 0x23, 0x0F, 0x28, 0x02, 0x24, 0x30, 0, 0xB7, 0x31};
     uint64_t part, line;
     for (part = 1; part <= 4; part++) {
         mcp795_chip chip, back;
@@ -124,7 +126,13 @@ static void round_trip(void)
         CHECK(mcp795_init(&chip, part), 0);
         send_frame(&chip, clock, sizeof clock);
         begin_write(&chip);
-        CHECK_COUNT(mcp795_wait(&chip, 101), 101);
+        CHECK_COUNT(mcp795_wait(&chip, 60), 60);
+        CHECK_DONE(mcp795_set_evls(&chip, 1));
+        CHECK_DONE(mcp795_set_evhs(&chip, 1));
+        CHECK_COUNT(mcp795_wait(&chip, 41), 41);
+        CHECK(chip.state[MCP795_AT_EDGES], 1);
+        CHECK(count_at(chip.state, MCP795_AT_SINCE), 41);
+        CHECK(count_at(chip.state, MCP795_AT_DEBOUNCE), 1024 - 41);
         CHECK_DONE(mcp795_select(&chip));
         CHECK_DONE(mcp795_transfer(&chip, MCP795_SRREAD));
         text = text_of(&chip);
@@ -140,6 +148,11 @@ static void round_trip(void)
         CHECK_REPLY(mcp795_transfer(&back, 0), MCP795_STATUS_WIP | MCP795_STATUS_WEL);
         CHECK_COUNT(mcp795_wait(&back, 200), 63);
         CHECK_REPLY(mcp795_transfer(&back, 0), 0);
+        /* the debounce too: both alarms come with the first hundredth, at tick 32 + 328, and EVLIF where IRQ is low already */
+        CHECK_ANSWER(mcp795_wait(&back, 2000), 0, false, 0, 360 - 164, false, true);
+        CHECK(mcp795_event_flags(&back), 0);
+        CHECK_ANSWER(mcp795_wait(&back, 2000), 0, false, 0, 60 + 1024 - 360, false, true);
+        CHECK(mcp795_event_flags(&back), MCP795_EVLIF);
     }
     check_in(NULL, 0, 0);
 }
@@ -183,7 +196,10 @@ static void bad_texts(void)
     CHECK(has_line(&good, 49, "wel=1\n"), true);
     CHECK(has_line(&good, 57, "left=64\n"), true);
     CHECK(has_line(&good, 60, "ee2=255,255,255,255,255,255,255,255\n"), true);
-    CHECK(line_at(&good, 92), good.size);
+    CHECK(has_line(&good, 91, "id1=255,255,255,255,255,255,255,255\n"), true);
+    CHECK(has_line(&good, 92, "evls=0\n"), true);
+    CHECK(has_line(&good, 96, "debounce=0\n"), true);
+    CHECK(line_at(&good, 97), good.size);
     spoiled = with_line(&good, 6, "reg4=33\n");
     BAD(&spoiled, 6);
     spoiled = with_line(&good, 57, "left=165\n");
@@ -206,18 +222,31 @@ static void bad_texts(void)
     BAD(&spoiled, 91);
     spoiled = good;
     spoiled.size--;
-    BAD(&spoiled, 91);
+    BAD(&spoiled, 96);
     spoiled = good;
     spoiled.text[spoiled.size++] = '\n';
+    BAD(&spoiled, 97);
+    /* the lines of the event inputs, of which none is enabled */
+    spoiled = with_line(&good, 92, "evls=2\n");
+    BAD(&spoiled, 92);
+    spoiled = with_line(&good, 93, "evhs=2\n");
+    BAD(&spoiled, 93);
+    spoiled = with_line(&good, 94, "edges=1\n");
+    BAD(&spoiled, 94);
+    spoiled = with_line(&good, 95, "since=1\n");
+    BAD(&spoiled, 95);
+    spoiled = with_line(&good, 96, "debounce=1\n");
+    BAD(&spoiled, 96);
+    spoiled = with_line(&good, 92, "");
     BAD(&spoiled, 92);
     spoiled = with_line(&good, 1, "part=2\r\n");
     BAD(&spoiled, 1);
-    /* cut off before each line: the first that is missing */
-    for (number = 1; number <= 91; number++) {
+    /* cut off before each line: the first that is missing. Only the lines of the event inputs may be missing, all of them */
+    for (number = 1; number <= 96; number++) {
         check_in("line", number, 0);
         spoiled = good;
         spoiled.size = line_at(&good, number);
-        BAD(&spoiled, number);
+        if (number != 92) BAD(&spoiled, number);
         at = spoiled.size;
         spoiled.size = line_at(&good, number + 1) - 1;
         if (spoiled.size > at) BAD(&spoiled, number);
@@ -227,6 +256,39 @@ static void bad_texts(void)
     check_in(NULL, 0, 0);
     CHECK(mcp795_from_text(&loaded, NULL, 0, &line), 8);
     CHECK(line, 1);
+}
+
+/* A text that ends behind `id1` is one from before there were event inputs: their numbers are 0, and are written from then on. */
+static void older_text(uint64_t part)
+{
+    static const uint8_t both[] = {MCP795_WRITE, 0x0B, 0x33};
+    mcp795_chip chip, back;
+    saved text, older, again;
+    uint64_t line = 9;
+    CHECK(mcp795_init(&chip, part), 0);
+    send_frame(&chip, both, sizeof both);
+    begin_write(&chip);
+    CHECK_COUNT(mcp795_wait(&chip, 33), 33);
+    text = text_of(&chip);
+    CHECK(has_line(&text, part % 2 == 1 ? 76 : 92, "evls=0\n"), true);
+    older = text;
+    older.size = line_at(&text, part % 2 == 1 ? 76 : 92);
+    memset(&back, 0x5A, sizeof back);
+    CHECK(mcp795_from_text(&back, older.text, older.size, &line), 0);
+    CHECK(line, 0);
+    CHECK_BYTES(&back, &chip, sizeof back);
+    again = text_of(&back);
+    CHECK(again.size, text.size);
+    CHECK_BYTES(again.text, text.text, text.size);
+    /* levels and counts that its lines had are lost with them */
+    CHECK_DONE(mcp795_set_evls(&chip, 1));
+    CHECK_DONE(mcp795_set_evhs(&chip, 1));
+    older = text_of(&chip);
+    older.size = line_at(&older, part % 2 == 1 ? 76 : 92);
+    CHECK(mcp795_from_text(&back, older.text, older.size, &line), 0);
+    again = text_of(&back);
+    CHECK(again.size, text.size);
+    CHECK_BYTES(again.text, text.text, text.size);
 }
 
 /* A good text, and memories that are not its part's, or a state that is not the library's. */
@@ -331,7 +393,7 @@ static void room(void)
     CHECK(written, 0);
 }
 
-/* As many digits everywhere as D154 allows: counted by its table, the longest text has 2,051 bytes. */
+/* As many digits everywhere as D154 and D194 allow: counted by their tables, the longest text has 2,100 bytes. */
 static void longest(void)
 {
     static const uint8_t clock_block[32] = {
@@ -357,9 +419,13 @@ static void longest(void)
     chip.state[MCP795_AT_OFFSETS] = 255;
     chip.state[MCP795_AT_TARGET + 1] = 255;
     chip.state[MCP795_AT_LEFT] = 164;
+    chip.state[MCP795_AT_EVLS] = chip.state[MCP795_AT_EVHS] = 1;
+    chip.state[MCP795_AT_EDGES] = 31;
+    set_count(chip.state, MCP795_AT_SINCE, 8192);
+    set_count(chip.state, MCP795_AT_DEBOUNCE, 16384);
     text = text_of(&chip);
-    CHECK(text.size, 2051);
-    CHECK(mcp795_to_text(&chip, text.text, 2050, &at), 8);
+    CHECK(text.size, 2100);
+    CHECK(mcp795_to_text(&chip, text.text, 2099, &at), 8);
     CHECK(mcp795_to_text(&chip, text.text, MCP795_TEXT_MAX, &at), 0);
     CHECK(at, text.size);
     CHECK(mcp795_from_text(&back, text.text, text.size, &line), 0);
@@ -374,6 +440,8 @@ void test_saved(void)
     fresh_text(3);
     fresh_text(4);
     round_trip();
+    older_text(MCP795_PART_B1K);
+    older_text(MCP795_PART_W2K);
     bad_texts();
     wrong_sizes();
     room();

@@ -1,5 +1,5 @@
-/* States that somebody spoiled: refused by 3, 4 or 6 and left alone, or lawful. Expected are S3 to S7 of docs/RULES.md, written out
- * below a second time. And where a state has what. */
+/* States that somebody spoiled: refused by 3, 4 or 6 and left alone, or lawful. Expected are S3 to S7 and V14 of docs/RULES.md,
+ * written out below a second time. And where a state has what. */
 #include "check.h"
 
 #include <string.h>
@@ -12,6 +12,9 @@ static const uint8_t kept[32] = {
 
 /* K23, by the three low bits of 0Ah. */
 static const uint64_t periods[8] = {32, 512, 2048, 4096, 32768, 524288, 1048576, 2097152};
+
+/* V3, by the two low bits of 0Bh. */
+static const uint8_t edges[4] = {1, 4, 16, 32};
 
 /* F1, from the lowest; and whether each is heard while a cycle runs (F32). */
 static const struct {
@@ -64,6 +67,17 @@ static bool is_stage(const uint8_t *stage, size_t eeprom, bool *deaf)
     return good;
 }
 
+/* V14: whether the last nine bytes are those of a chip with this byte in 0Bh. */
+static bool is_events(const uint8_t *last, uint8_t byte)
+{
+    const uint64_t since = count_at(last, 3), left = count_at(last, 6);
+    if (last[0] > 1 || last[1] > 1) return false;
+    if (last[2] >= edges[byte & 3] || ((byte & 0x20) == 0 && last[2] != 0)) return false;
+    if (since > 8192 || (last[2] == 0 && since != 0)) return false;
+    if (left != 0 && (last[0] == 0 || (byte & 0x10) == 0)) return false;
+    return left <= ((byte & 0x04) != 0 ? 16384 : 1024);
+}
+
 /* The number by which a state is refused that comes with so many bytes of EEPROM and 16 of ID. */
 static uint64_t judged(const uint8_t *s, size_t eeprom)
 {
@@ -90,7 +104,7 @@ static uint64_t judged(const uint8_t *s, size_t eeprom)
     if (s[MCP795_AT_NEXT] > 7) return 6;
     if (target[0] > 2 || target[1] >= (target[0] == 0 ? eeprom : target[0] == 1 ? 16 : 4)) return 6;
     if (s[MCP795_AT_LEFT] > (on && !deaf ? 164 : 0)) return 6;
-    return 0;
+    return is_events(s + 133, s[MCP795_AT_REGISTERS + 0x0B]) ? 0 : 6;
 }
 
 /* A wait of 0 and a save say `by`, and neither changes a byte of the chip. */
@@ -124,9 +138,11 @@ static size_t size_of(const mcp795_chip *chip)
  * bytes changed. Gives how many of the first are lawful. */
 static unsigned every_place(const mcp795_chip *chip)
 {
-    static const size_t counts[] = {MCP795_AT_DIVIDER, MCP795_AT_STARTUP, MCP795_AT_WATCHDOG, MCP795_AT_DELAY, MCP795_AT_PULSE};
-    static const uint64_t limits[] = {0,     31,    32,    33,     511,    512,     4095,    4096,    4097,    32767,   32768,
-                                      65535, 65536, 65537, 524287, 524288, 1048576, 2097151, 2097152, 2097153, 4194304, 0xFFFFFF};
+    static const size_t counts[] = {MCP795_AT_DIVIDER, MCP795_AT_STARTUP, MCP795_AT_WATCHDOG, MCP795_AT_DELAY,
+                                    MCP795_AT_PULSE,   MCP795_AT_SINCE,   MCP795_AT_DEBOUNCE};
+    static const uint64_t limits[] = {0,     1,     31,    32,    33,    511,   512,    1023,   1024,    1025,    4095,
+                                      4096,  4097,  8191,  8192,  8193,  16383, 16384,  16385,  32767,   32768,   65535,
+                                      65536, 65537, 524287, 524288, 1048576, 2097151, 2097152, 2097153, 4194304, 0xFFFFFF};
     mcp795_chip spoiled = *chip;
     unsigned lawful = 0;
     size_t place, at;
@@ -207,6 +223,16 @@ static void by_hand(const mcp795_chip *chip)
         {MCP795_AT_LEFT, 164, 0},
         {MCP795_AT_LEFT, 165, 6},
         {MCP795_AT_LEFT, 255, 6},
+        {MCP795_AT_EVLS, 1, 0},
+        {MCP795_AT_EVLS, 2, 6},
+        {MCP795_AT_EVHS, 1, 0},
+        {MCP795_AT_EVHS, 255, 6},
+        /* 0Bh is 0: nothing is enabled */
+        {MCP795_AT_EDGES, 1, 6},
+        {MCP795_AT_SINCE, 1, 6},
+        {MCP795_AT_SINCE + 2, 1, 6},
+        {MCP795_AT_DEBOUNCE, 1, 6},
+        {MCP795_AT_DEBOUNCE + 2, 1, 6},
     };
     size_t at;
     for (at = 0; at < sizeof rows / sizeof rows[0]; at++) {
@@ -287,6 +313,46 @@ static void counts_by_registers(const mcp795_chip *chip)
     check_in(NULL, 0, 0);
 }
 
+/* The counts of the event inputs at and past their limits, with each byte in 0Bh and both levels of EVLS. A flag beside a count is
+ * in range, and so are edges beside EVWDT. */
+static void counts_by_events(const mcp795_chip *chip)
+{
+    static const uint64_t left[] = {1, 1023, 1024, 1025, 16383, 16384, 16385, 65536};
+    mcp795_chip spoiled = *chip;
+    int byte, level;
+    size_t at;
+    for (byte = 0; byte <= 255; byte++) {
+        const uint8_t number = edges[byte & 3];
+        const bool counts = (byte & 0x20) != 0, waits = (byte & 0x10) != 0;
+        const uint64_t longest = (byte & 0x04) != 0 ? 16384 : 1024;
+        check_in("0Bh", (uint64_t)byte, 0);
+        spoiled = *chip;
+        spoiled.state[MCP795_AT_REGISTERS + 0x0B] = (uint8_t)byte;
+        verdict(&spoiled, size_of(chip), 0);
+        spoiled.state[MCP795_AT_EDGES] = number;
+        verdict(&spoiled, size_of(chip), 6);
+        spoiled.state[MCP795_AT_EDGES] = (uint8_t)(number - 1);
+        verdict(&spoiled, size_of(chip), counts || number == 1 ? 0 : 6);
+        set_count(spoiled.state, MCP795_AT_SINCE, 8192);
+        verdict(&spoiled, size_of(chip), counts && number > 1 ? 0 : 6);
+        set_count(spoiled.state, MCP795_AT_SINCE, 8193);
+        verdict(&spoiled, size_of(chip), 6);
+        spoiled.state[MCP795_AT_EDGES] = 0;
+        set_count(spoiled.state, MCP795_AT_SINCE, 1);
+        verdict(&spoiled, size_of(chip), 6);
+        set_count(spoiled.state, MCP795_AT_SINCE, 0);
+        for (level = 0; level <= 1; level++) {
+            spoiled.state[MCP795_AT_EVLS] = (uint8_t)level;
+            for (at = 0; at < sizeof left / sizeof left[0]; at++) {
+                check_in("0Bh, debounce", (uint64_t)byte, left[at]);
+                set_count(spoiled.state, MCP795_AT_DEBOUNCE, left[at]);
+                verdict(&spoiled, size_of(chip), level == 1 && waits && left[at] <= longest ? 0 : 6);
+            }
+        }
+    }
+    check_in(NULL, 0, 0);
+}
+
 /* The bytes of a state that is not fresh, by their numbers in the array, and the looks of the header. 1000 counted ticks are E8h 03h
  * 00h; 2,097,152 of delay less them are 18h FCh 1Fh. */
 static void places(void)
@@ -296,8 +362,8 @@ static void places(void)
                          step1[] = {MCP795_UNLOCK, 0x55}, step2[] = {MCP795_UNLOCK, 0xAA}, id[] = {MCP795_IDWRITE, 0x1E, 9, 8};
     mcp795_chip chip, before;
     int address;
-    CHECK(MCP795_STATE, 133);
-    CHECK(sizeof chip.state, 133);
+    CHECK(MCP795_STATE, 142);
+    CHECK(sizeof chip.state, 142);
     CHECK(mcp795_init(&chip, MCP795_PART_W2K), 0);
     CHECK(chip.state[0], 2);
     CHECK(chip.state[112], 1);
@@ -411,20 +477,52 @@ static void watchdog_places(void)
     CHECK_ANSWER(mcp795_wait(&chip, 70000), 0, false, 0, 4095, true, true);
 }
 
+/* The last nine bytes. Both inputs enabled, 16 edges, the long debounce: two rises 300 ticks apart, then EVLS. 340 are 54h 01h 00h,
+ * and 16,384 less 40 are D8h 3Fh 00h. */
+static void event_places(void)
+{
+    static const uint8_t both[] = {MCP795_WRITE, 0x0B, 0x36}, last[] = {1, 0, 2, 0x54, 0x01, 0, 0xD8, 0x3F, 0};
+    mcp795_chip chip;
+    CHECK(mcp795_init(&chip, MCP795_PART_B1K), 0);
+    CHECK_COUNT(mcp795_wait(&chip, 32), 32);
+    send_frame(&chip, both, sizeof both);
+    CHECK_DONE(mcp795_set_evhs(&chip, 1));
+    CHECK(mcp795_evhs(&chip), true);
+    CHECK(chip.state[134], 1);
+    CHECK_COUNT(mcp795_wait(&chip, 300), 300);
+    CHECK_DONE(mcp795_set_evhs(&chip, 0));
+    CHECK_DONE(mcp795_set_evhs(&chip, 1));
+    CHECK_DONE(mcp795_set_evhs(&chip, 0));
+    CHECK_DONE(mcp795_set_evls(&chip, 1));
+    CHECK_COUNT(mcp795_wait(&chip, 40), 40);
+    CHECK_BYTES(chip.state + 133, last, sizeof last);
+    CHECK(MCP795_AT_EVLS, 133);
+    CHECK(MCP795_AT_EVHS, 134);
+    CHECK(MCP795_AT_EDGES, 135);
+    CHECK(MCP795_AT_SINCE, 136);
+    CHECK(MCP795_AT_DEBOUNCE, 139);
+    CHECK(mcp795_evls(&chip), true);
+    CHECK(mcp795_evhs(&chip), false);
+}
+
 void test_states(void)
 {
-    static const uint8_t clock[] = {MCP795_WRITE, 0x01, 0x80, 0, 0, 0x09};
+    static const uint8_t clock[] = {MCP795_WRITE, 0x01, 0x80, 0, 0, 0x09}, both[] = {MCP795_WRITE, 0x0B, 0x37};
     mcp795_chip chip, running, off;
+    int rise;
     places();
     watchdog_places();
+    event_places();
     CHECK(mcp795_init(&chip, MCP795_PART_W2K), 0);
     by_hand(&chip);
     /* 2 parts; registers 19 * 256 + 5 * 128 + 5 * 64 + 3 * 32, by the masks; SRAM 64 * 256; divider 256 + 128 + 1, start-up count
      * 1 + 1 + 1, watchdog count 32 + 1 + 1, delay 256 + 256 + 33, pulse 256 + 17 + 1; power 2, mark 1, WEL 2, BP 4, lock 3; stage
-     * 8 + 1 + 1; offsets 256, load 8 * 256, next 8; target 3 + 256; left 165 */
-    CHECK(every_place(&chip), 26305);
+     * 8 + 1 + 1; offsets 256, load 8 * 256, next 8; target 3 + 256; left 165; EVLS 2, EVHS 2, edges 1, ticks since 1 + 1 + 1,
+     * debounce 1 + 1 + 1 */
+    CHECK(every_place(&chip), 26316);
     stages(&chip);
     counts_by_registers(&chip);
+    counts_by_events(&chip);
     /* the clock runs on a battery, a write cycle is under way and a frame open */
     running = chip;
     send_frame(&running, clock, sizeof clock);
@@ -439,6 +537,23 @@ void test_states(void)
     CHECK_COUNT(mcp795_cut(&off, 255), 2);
     CHECK(off.state[MCP795_AT_MARK], 1);
     every_place(&off);
+    /* both inputs count, on the battery too: 3 of 32 edges, the long debounce */
+    CHECK_DONE(mcp795_end(&running, 0));
+    send_frame(&running, both, sizeof both);
+    for (rise = 0; rise < 3; rise++) {
+        CHECK_DONE(mcp795_set_evhs(&running, 1));
+        CHECK_DONE(mcp795_set_evhs(&running, 0));
+    }
+    CHECK_DONE(mcp795_set_evls(&running, 1));
+    CHECK_COUNT(mcp795_wait(&running, 114), 114);
+    CHECK_COUNT(mcp795_wait(&running, 1000), 1000);
+    CHECK(running.state[MCP795_AT_EDGES], 3);
+    CHECK(count_at(running.state, MCP795_AT_SINCE), 1114);
+    CHECK(count_at(running.state, MCP795_AT_DEBOUNCE), 16384 - 1114);
+    every_place(&running);
+    CHECK_DONE(mcp795_cut(&running, 0));
+    CHECK(running.state[MCP795_AT_EDGES], 3);
+    every_place(&running);
     /* a B part in the middle of a page write */
     CHECK(mcp795_init(&chip, MCP795_PART_B2K), 0);
     CHECK_COUNT(mcp795_wait(&chip, 20), 20);

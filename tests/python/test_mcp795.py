@@ -94,6 +94,7 @@ class Making(Case):
             self.assertTrue(chip.powered)
             self.assertFalse(chip.selected)
             self.assertEqual((chip.irq, chip.wdo, chip.wip, chip.wel, chip.now, chip.events), (1, 1, 0, 0, 0, []))
+            self.assertEqual((chip.door, chip.drum), (0, 0))
 
     def test_no_such_part(self):
         for part in 0, 5, -1, 2**64 + 2:
@@ -113,8 +114,11 @@ class Making(Case):
                 Chip(part)
 
     def test_repr(self):
-        self.assertEqual(repr(Chip('B10')), '<Chip B10 at 0 ticks: power=1 selected=0 irq=1 wdo=1 wip=0 wel=0>')
-        self.assertEqual(repr(evening()), '<Chip W20 at 100 ticks: power=1 selected=0 irq=1 wdo=1 wip=1 wel=1>')
+        self.assertEqual(repr(Chip('B10')),
+                         '<Chip B10 at 0 ticks: power=1 selected=0 irq=1 wdo=1 wip=0 wel=0 door=0 drum=0>')
+        chip = evening()
+        chip.drum = 1
+        self.assertEqual(repr(chip), '<Chip W20 at 100 ticks: power=1 selected=0 irq=1 wdo=1 wip=1 wel=1 door=0 drum=1>')
 
 
 class Copies(Case):
@@ -211,7 +215,14 @@ class Acts(Case):
         self.assertEqual(chip.act(Act.WAIT, 7), Answer(0, False, 0, 7, 1, 1))
         self.assertEqual(chip.act(Act.CUT, 0), Answer(0, False, 0, 0, 1, 1))
         self.assertEqual(chip.act(Act.UP, 0), Answer(0, False, 0, 0, 1, 1))
+        self.assertEqual(chip.act(Act.EVLS, 1), Answer(0, False, 0, 0, 1, 1))
+        self.assertEqual(chip.act(7, 1), Answer(0, False, 0, 0, 1, 1))
+        self.assertEqual((chip.door, chip.drum), (1, 1))
         self.assertEqual(chip.now, 7)
+
+    def test_the_numbers_of_the_acts(self):
+        self.assertEqual([act.name for act in Act], ['SELECT', 'BYTE', 'END', 'WAIT', 'CUT', 'UP', 'EVLS', 'EVHS'])
+        self.assertEqual(list(Act), list(range(8)))
 
     def test_act_takes_no_bus_time(self):
         chip = Chip(spi_hz=1)
@@ -315,7 +326,8 @@ class Refusals(Case):
         chip = still()
         chip.write(Register.CONTROL, [Bit.ALM0])
         chip.write(Register.ALARM_0_DAY, [Bit.ALM0IF])
-        for place, byte, number in (mcp795._LEFT, 165, 6), (mcp795._POWER, 2, 6), (mcp795._PART, 0, 3), (mcp795._PART, 1, 4):
+        for place, byte, number in ((mcp795._LEFT, 165, 6), (mcp795._POWER, 2, 6), (mcp795._PART, 0, 3),
+                                    (mcp795._PART, 1, 4), (mcp795._EVLS, 2, 6), (mcp795._EVHS, 2, 6), (135, 1, 6), (136, 1, 6), (139, 1, 6)):
             spoiled = chip.copy()
             spoiled._state[place] = byte
             self.assertEqual(spoiled.act(Act.WAIT, 0), Answer(number, False, 0, 0, 1, 1))
@@ -330,7 +342,8 @@ class Refusals(Case):
             for act, number, refusal in (
                     (Act.SELECT, 1, 3), (Act.BYTE, 0, 2), (Act.BYTE, 256, 3), (Act.END, 0, 2), (Act.END, 8, 3),
                     (Act.WAIT, 16777217, 3), (Act.CUT, 256, 3), (Act.UP, 0, 5), (Act.UP, 1, 3),
-                    (6, 0, 3), (-1, 0, 3), (2**64, 0, 3), (2**64 + 3, 5, 3), (Act.WAIT, 2**64 + 5, 3), (Act.WAIT, -1, 3)):
+                    (Act.EVLS, 2, 3), (Act.EVHS, 2, 3), (Act.EVLS, 2**64 + 1, 3), (Act.EVHS, -1, 3),
+                    (8, 0, 3), (-1, 0, 3), (2**64, 0, 3), (2**64 + 3, 5, 3), (Act.WAIT, 2**64 + 5, 3), (Act.WAIT, -1, 3)):
                 self.assertEqual(chip.act(act, number), Answer(refusal, False, 0, 0, 1, 1), (act, number))
 
     def test_the_first_row_answers(self):
@@ -508,6 +521,8 @@ class Peeks(Case):
         self.assertEqual((Bit.ALM0, Bit.ALM1), (0x10, 0x20))
         self.assertEqual((Bit.WDTEN, Bit.WDTIF, Bit.WDDEL, Bit.WDTPLS), (0x80, 0x40, 0x20, 0x10))
         self.assertEqual((Bit.ALM0PIN, Bit.ALM0IF, Bit.ALM1PIN, Bit.ALM1IF), (0x80, 0x08, 0x80, 0x08))
+        self.assertEqual((Bit.EVHIF, Bit.EVLIF, Bit.EVEN1, Bit.EVEN0), (0x80, 0x40, 0x20, 0x10))
+        self.assertEqual((Bit.EVWDT, Bit.EVLDB, Bit.EVHS1, Bit.EVHS0), (0x08, 0x04, 0x02, 0x01))
 
 
 class Events(Case):
@@ -625,6 +640,176 @@ class Events(Case):
         chip = still()
         self.assertEqual(chip.advance(ticks=2 * 16777216 + 5), [])
         self.assertEqual(chip.now, 33554437)
+
+
+class Inputs(Case):
+    """The door's switch on EVLS and the drum's sensor on EVHS: V1 to V13."""
+
+    @staticmethod
+    def watching(events, part='W20'):
+        """A chip whose oscillator is on, with this byte in 0Bh."""
+        chip = still(part)
+        chip.write(Register.SECONDS, [Bit.ST])
+        chip.wait(STARTUP)
+        chip.write(Register.EVENT_DETECT, [events])
+        return chip
+
+    @staticmethod
+    def rises(chip, count):
+        for _ in range(count):
+            chip.drum = 0
+            chip.drum = 1
+
+    def test_levels(self):
+        for chip in still(), Chip('B10', spi_hz=1):
+            for level in 1, 1, 0, True, False:
+                chip.door = level
+                self.assertEqual((chip.door, chip.drum), (level, 0))
+                chip.drum = level
+                self.assertEqual((chip.door, chip.drum), (level, level))
+                chip.drum = 0
+            self.assertEqual((chip.now, chip.events), (0, []))
+
+    def test_levels_in_a_frame_and_without_power(self):
+        chip = still()
+        chip.select()
+        chip.byte(Code.SRREAD)
+        chip.door = chip.drum = 1
+        self.assertEqual(chip.byte(0), 0)
+        chip.cut()
+        self.assertEqual((chip.door, chip.drum), (1, 1))
+        chip.door = 0
+        self.assertEqual((chip.door, chip.drum), (0, 1))
+        chip.up()
+        self.assertEqual((chip.door, chip.drum), (0, 1))
+
+    def test_what_is_no_level(self):
+        chip = still()
+        chip.door = 1
+        for level in 2, -1, 255, 2**64, 2**64 + 1:
+            error = self.refused(3, chip, lambda c: setattr(c, 'door', level))
+            self.assertEqual((error.act, error.argument), ('evls', level))
+            self.assertEqual(str(error), 'evls %d: refused by 3: the argument is not one that the act takes, or there is no '
+                             'such part' % level)
+            error = self.refused(3, chip, lambda c: setattr(c, 'drum', level))
+            self.assertEqual((error.act, error.argument), ('evhs', level))
+        with self.unchanged(chip):
+            for level in 1.0, '1', None, b'1':
+                self.assertRaises(TypeError, setattr, chip, 'door', level)
+                self.assertRaises(TypeError, setattr, chip, 'drum', level)
+        spoiled = chip.copy()
+        spoiled._state[mcp795._LEFT] = 165
+        with self.assertRaises(Refused) as caught:
+            spoiled.door = 0
+        self.assertEqual(str(caught.exception), "evls 0: refused by 6: the chip's record is out of range")
+
+    def test_a_door_that_bounces(self):
+        for setting, ticks in (0, 1024), (Bit.EVLDB, 16384):
+            chip = self.watching(Bit.EVEN0 | setting)
+            for held in 1, 300, ticks - 1:
+                chip.door = 1
+                self.assertEqual(chip.advance(ticks=held), [])
+                chip.door = 0
+            self.assertEqual(chip.advance(seconds=1), [])
+            chip.door = 1
+            chip.wait(ticks - 1)
+            chip.door = 1       # no edge
+            self.assertEqual((chip.irq, chip.registers['EVENT_DETECT']), (1, Bit.EVEN0 | setting))
+            self.assertEqual(chip.wait(1000), 1)
+            self.assertEqual((chip.irq, chip.read(Register.EVENT_DETECT)[0]), (0, Bit.EVLIF | Bit.EVEN0 | setting))
+            self.assertEqual(chip.events, [
+                Event(1, chip.now, 'IRQ', 0, 1, 0, 0, 1), Event(1, chip.now, 'EVLIF', 0, 1, 0, 0, 1)])
+            self.assertEqual([event.level for event in chip.events], [0, 1])
+            chip.write(Register.EVENT_DETECT, [Bit.EVEN0 | setting])
+            self.assertEqual((chip.irq, chip.door), (1, 1))
+            self.assertEqual([(event.line, event.level) for event in chip.events[2:]], [('IRQ', 1), ('EVLIF', 0)])
+            self.assertEqual(chip.advance(seconds=1), [])
+
+    def test_a_drum(self):
+        for code, number in enumerate((1, 4, 16, 32)):
+            chip = self.watching(Bit.EVEN1 | code)
+            self.rises(chip, number - 1)
+            self.assertEqual(chip.wait(8192), 8192)
+            late = chip.copy()
+            self.assertEqual(chip.irq, 1)
+            self.rises(chip, 1)
+            self.assertEqual((chip.irq, chip.registers['EVENT_DETECT']), (0, Bit.EVHIF | Bit.EVEN1 | code))
+            self.assertEqual(chip.events, [
+                Event(0, chip.now, 'IRQ', 0, 1, 0, 1, 0), Event(0, chip.now, 'EVHIF', 0, 1, 0, 1, 0)])
+            # with the 8,193rd tick the next rise is a first one
+            late.wait(1)
+            self.rises(late, number - 1)
+            self.assertEqual(late.irq, 1)
+            self.rises(late, 1)
+            self.assertEqual(late.irq, 0)
+
+    def test_a_write_zeroes_the_counts(self):
+        chip = self.watching(Bit.EVEN1 | Bit.EVEN0 | Bit.EVHS0)
+        self.rises(chip, 3)
+        chip.door = 1
+        chip.wait(1000)
+        chip.write(Register.EVENT_DETECT, [Bit.EVEN1 | Bit.EVEN0 | Bit.EVHS0])
+        self.rises(chip, 3)
+        self.assertEqual(chip.advance(seconds=1), [])
+        self.rises(chip, 4)
+        self.assertEqual(chip.irq, 0)
+
+    def test_what_is_not_seen(self):
+        for start, byte in (Bit.ST, 0), (0, Bit.EVEN1 | Bit.EVEN0):
+            chip = still()
+            chip.write(Register.SECONDS, [start])
+            chip.wait(STARTUP)
+            chip.write(Register.EVENT_DETECT, [byte])
+            chip.door = 1
+            self.rises(chip, 40)
+            chip.write(Register.SECONDS, [Bit.ST])
+            self.assertEqual(chip.advance(seconds=2), [])
+
+    def test_edges_for_the_watchdog(self):
+        chip = self.watching(Bit.EVWDT | Bit.EVEN1)
+        chip.write(Register.WATCHDOG, [Bit.WDTEN | 1])
+        for level in 1, 0, 1, 0:
+            self.assertEqual(chip.wait(511), 511)
+            chip.drum = level
+        self.assertEqual(chip.events, [])
+        self.assertEqual(chip.wait(1000), 512)
+        self.assertEqual((chip.wdo, chip.irq), (0, 1))
+
+    def test_a_flag_ends_a_wait_with_irq_low(self):
+        chip = self.watching(Bit.EVEN1 | Bit.EVEN0)
+        chip.door = 1
+        chip.drum = 1
+        twin = chip.copy()
+        self.assertEqual(chip.irq, 0)
+        self.assertEqual(chip.wait(5000), 1024)
+        self.assertEqual(chip.events[2:], [Event(1024, chip.now, 'EVLIF', 0, 1, 0, 1, 1)])
+        self.assertEqual(twin.advance(ticks=1024), [Event(1024, twin.now, 'EVLIF', 0, 1, 0, 1, 1)])
+
+    def test_on_the_battery(self):
+        for day, events in (1, []), (Bit.VBATEN | 1, ['IRQ', 'EVLIF']):
+            chip = self.watching(Bit.EVEN0)
+            chip.write(Register.DAY, [day])
+            chip.door = 1
+            chip.cut()
+            self.assertEqual([event.line for event in chip.advance(seconds=1)], events)
+            self.assertEqual(chip.door, 1)
+
+    def test_a_flag_that_is_written(self):
+        for flag, name in (Bit.EVHIF, 'EVHIF'), (Bit.EVLIF, 'EVLIF'):
+            chip = still()
+            chip.write(Register.EVENT_DETECT, [flag])
+            self.assertEqual([(event.line, event.level) for event in chip.events], [('IRQ', 0), (name, 1)])
+            self.assertEqual(Chip.from_text(chip.to_text()).irq, 0)
+            self.assertEqual(Chip.from_text(chip.to_text()).events, [])
+
+    def test_copies_and_equality(self):
+        chip = still()
+        twin = chip.copy()
+        twin.door = 1
+        self.assertNotEqual(chip, twin)
+        self.assertEqual((chip.door, twin.door), (0, 1))
+        twin.door = 0
+        self.assertEqual(chip, twin)
 
 
 class Times(Case):
@@ -778,6 +963,7 @@ def fresh_text(part):
     erased = ','.join(['255'] * 8)
     lines += ['ee%d=%s' % (i, erased) for i in range(16 if part in (1, 3) else 32)]
     lines += ['id%d=%s' % (i, erased) for i in range(2)]
+    lines += ['evls=0', 'evhs=0', 'edges=0', 'since=0', 'debounce=0']
     return ''.join(line + '\n' for line in lines)
 
 
@@ -800,6 +986,9 @@ class Saved(Case):
         running = still('B10')
         running.write(Register.WATCHDOG, [Bit.WDTEN | 7])
         running.advance(ticks=STARTUP + 70000)
+        running.write(Register.EVENT_DETECT, [Bit.EVEN1 | Bit.EVEN0 | Bit.EVHS1])
+        running.door = running.drum = 1
+        running.advance(ticks=300)
         running.select()
         running.byte(Code.READ)
         for chip in Chip(), evening(), running:
@@ -807,11 +996,36 @@ class Saved(Case):
             for line in chip.to_text().splitlines():
                 key, numbers = line.split('=')
                 if not key.startswith(('ee', 'id')):
-                    width = 3 if key in ('divider', 'startup', 'watchdog', 'delay', 'pulse') else 1
+                    width = 3 if key in ('divider', 'startup', 'watchdog', 'delay', 'pulse', 'since', 'debounce') else 1
                     state += b''.join(int(number).to_bytes(width, 'little') for number in numbers.split(','))
             self.assertEqual(bytes(chip._state), state)
-        self.assertEqual(state[103:106], bytes([0x70, 0x11, 0x01]))
+        self.assertEqual(len(state), 142)
+        self.assertEqual(state[103:106], (70300).to_bytes(3, 'little'))
+        self.assertEqual(state[133:], bytes([1, 1, 1, 0x2C, 0x01, 0, 0xD4, 0x02, 0]))      # 300, and 1,024 less 300
         self.assertEqual(state[117:120], bytes([3, Code.READ, 0]))
+
+    def test_a_file_from_before_there_were_event_inputs(self):
+        for chip in evening(), still('B10'):
+            text = chip.to_text()
+            older = text[:text.index('evls=')]
+            self.file.write_text(older)
+            for loaded in Chip.from_text(older), Chip.load(self.file):
+                self.assertEqual(loaded, chip)
+                self.assertEqual((loaded.door, loaded.drum), (0, 0))
+                self.assertEqual(loaded.to_text(), text)
+
+    def test_inputs_are_saved(self):
+        chip = still('B20')
+        chip.wait(STARTUP)
+        chip.write(Register.EVENT_DETECT, [Bit.EVEN1 | Bit.EVEN0 | Bit.EVHS0])
+        chip.door = chip.drum = 1
+        chip.wait(24)
+        other = Chip.from_text(chip.to_text(), spi_hz=None)
+        self.assertEqual(other, chip)
+        self.assertEqual((other.door, other.drum), (1, 1))
+        self.assertTrue(chip.to_text().endswith('evls=1\nevhs=1\nedges=1\nsince=24\ndebounce=1000\n'))
+        self.assertEqual(other.wait(5000), 1000)
+        self.assertEqual(other.irq, 0)
 
     def test_evening_and_morning(self):
         evening().save(self.file)
@@ -891,13 +1105,21 @@ class Saved(Case):
         self.bad(good.replace(b'mark=0\n', b''), 48)
         self.bad(good.replace(b'part=2', b'part=1'), 74)
         self.bad(b''.join(lines[:80]), 81)
-        self.bad(good[:-1], 91)
-        self.bad(good + b'\n', 92)
+        self.bad(good[:-1], 96)
+        self.bad(good + b'\n', 97)
+        self.bad(b''.join(lines[:91])[:-1], 91)
+        self.bad(b''.join(lines[:92]), 93)
+        self.bad(changed(b'evls=0', b'evls=2'), 92)
+        self.bad(changed(b'evhs=0', b'evhs=2'), 93)
+        self.bad(changed(b'edges=0', b'edges=1'), 94)
+        self.bad(changed(b'since=0', b'since=1'), 95)
+        self.bad(good.replace(b'debounce=0', b'debounce=1'), 96)
+        self.bad(good.replace(b'evls=0\n', b''), 92)
         self.bad(good.replace(b'\n', b'\r\n'), 1)
         self.bad(b'', 1)
         self.bad(b'something else', 1)
         self.bad(bytes(range(256)) * 100, 1)
-        self.bad(good + b'x' * 100000, 92)
+        self.bad(good + b'x' * 100000, 97)
         self.bad(changed(b'wel=1', b'wel=\0'), 49)
 
     def test_what_a_bad_file_says(self):
@@ -910,7 +1132,7 @@ class Saved(Case):
         self.assertIsInstance(caught.exception, Refused)
         self.assertIn('line 1: the text ends before it', str(self.bad(b'', 1)))
         self.assertIn('line 81: the text ends before it', str(self.bad(b''.join(good.splitlines(True)[:80]), 81)))
-        self.assertIn('255,255,255,255,255,255,255,255\' without a newline', str(self.bad(good[:-1], 91)))
+        self.assertIn("'debounce=0' without a newline", str(self.bad(good[:-1], 96)))
         self.assertIn(r"'part=2\r'", str(self.bad(good.replace(b'\n', b'\r\n'), 1)))
         self.assertIn(r"'\xe9\xff'", str(self.bad(b'\xe9\xff\n', 1)))
 
@@ -1001,6 +1223,8 @@ class Tapes(Case):
                 getattr(self.chip, name)()
             elif name in ('byte', 'end', 'wait', 'cut') and self.chip is not None:
                 out = getattr(self.chip, name)(number)
+            elif name in ('evls', 'evhs') and self.chip is not None:
+                setattr(self.chip, {'evls': 'door', 'evhs': 'drum'}[name], number)
             elif name in ('select', 'up') and self.chip is not None:
                 refusal = self.chip.act(Act[name.upper()], number).refusal
             else:
@@ -1139,7 +1363,7 @@ class Library(Case):
             Chip()
 
     def test_a_library_of_another_state_size(self):
-        for size in 0, 123, 132, 134, 984:
+        for size in 0, 123, 133, 141, 143, 984:
             with mock.patch.object(mcp795, '_STATE', size):
                 for make in (Chip, lambda: Chip('B10'), lambda: Chip.from_text(fresh_text(1)),
                              lambda: Chip.load(io.BytesIO(b''))):

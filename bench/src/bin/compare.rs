@@ -7,7 +7,7 @@ mod library;
 use model::Act;
 use std::process::ExitCode;
 
-const ACTS: [Act; 6] = [Act::Select, Act::Byte, Act::End, Act::Wait, Act::Cut, Act::Up];
+const ACTS: [Act; 8] = Act::ALL;
 
 fn main() -> ExitCode {
     let words: Vec<u64> = std::env::args().skip(1).map(|word| word.parse().expect("bench/run lets only numbers through")).collect();

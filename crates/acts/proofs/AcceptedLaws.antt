@@ -8,7 +8,8 @@ use native.Mathlib.Omega.{arith}
 use borrow.Author.Tests.{ltb-false}
 use lib.Dec.{ltb, lit<}
 use Rattle.record.specs.declared.Act.{Act}
-use Rattle.record.specs.declared.Act.the-variants.{Byte, End, Cut}
+use Rattle.record.specs.declared.Act.the-variants.{Byte, End, Cut, Set}
+use Rattle.record.specs.declared.Pin.{Pin}
 use Rattle.record.specs.declared.Device.{Device}
 use Rattle.record.specs.Address.{pageOf}
 use Rattle.refusals.specs.InRange.{InRange}
@@ -23,7 +24,7 @@ use Rattle.refusals.proofs.TableLaws.{Accepted, accepted}
 byte-arg : (most n : ℕ) → most < 256 → ltb most n ≡ false → n % 256 ≡ n
 byte-arg most n h e = omega (arith, ltb-false most n e)
 
--- of the acts that take a byte, a leftover or a mask
+-- of the acts that take a byte, a leftover, a mask or a level
 pub accepted-byte : (part n : ℕ) (d : Device) (ee id : ℕ) → refusalOf part Byte n d ee id ≡ 0 → n % 256 ≡ n
 accepted-byte part n d ee id e = byte-arg 255 n (lit< tt) (accepted part Byte n d ee id e .arg)
 
@@ -36,6 +37,9 @@ few-bits part n d ee id e = omega (arith, ltb-false 7 n (accepted part End n d e
 
 pub accepted-cut : (part n : ℕ) (d : Device) (ee id : ℕ) → refusalOf part Cut n d ee id ≡ 0 → n % 256 ≡ n
 accepted-cut part n d ee id e = byte-arg 255 n (lit< tt) (accepted part Cut n d ee id e .arg)
+
+pub accepted-set : (part n : ℕ) (p : Pin) (d : Device) (ee id : ℕ) → refusalOf part (Set p) n d ee id ≡ 0 → n % 256 ≡ n
+accepted-set part n p d ee id e = byte-arg 1 n (lit< tt) (accepted part (Set p) n d ee id e .arg)
 
 -- a record and memories of lengths ee and id
 pub record Suits (d : Device) (ee id : ℕ) : Type 0 where

@@ -9,7 +9,7 @@ use lib.Dec.{eqb}
 use Rattle.base.proofs.Tests.{pick-when}
 use Rattle.base.proofs.WaitLaws.{wait-stops}
 use Rattle.record.specs.declared.Act.{Act}
-use Rattle.record.specs.declared.Act.the-variants.{Select, Byte, End, Wait, Cut, Up}
+use Rattle.record.specs.declared.Act.the-variants.{Select, Byte, End, Wait, Cut, Up, Set}
 use Rattle.record.specs.declared.Reply.the-variants.{Driven, Off}
 use Rattle.record.specs.Part.{bootsOf}
 use Rattle.record.specs.Registers.{waitLimit}
@@ -43,6 +43,7 @@ accepted-count part arg w End t = omega arith
 accepted-count part arg w Wait t = omega (arith, ltb-false waitLimit arg t, wait-stops (tick (bootsOf part)) lineChanged arg w .within)
 accepted-count part arg w Cut t = omega (arith, cut-most arg (w .device))
 accepted-count part arg w Up t = omega arith
+accepted-count part arg w (Set p) t = omega arith
 
 -- a byte has a reply, and an end the first bits of it
 accepted-reply : (part arg : ℕ) (w : World) (act : Act) → Valid part w → (b : ℕ) → accepted part arg w act .reply ≡ Driven b → b < 256
@@ -53,6 +54,7 @@ accepted-reply part arg w End v b e =
 accepted-reply part arg w Wait v b e = absurd (not-driven b e)
 accepted-reply part arg w Cut v b e = absurd (not-driven b e)
 accepted-reply part arg w Up v b e = absurd (not-driven b e)
+accepted-reply part arg w (Set p) v b e = absurd (not-driven b e)
 
 pub performed-small : (part : ℕ) (act : Act) (arg : ℕ) (w : World) → Valid part w → Small (performed part act arg w)
 unfolding performed

@@ -10,7 +10,7 @@ use lib.Dec.{eqb}
 use lib.ListN.{length}
 use Rattle.base.proofs.Tests.{by-cases, pick-case, pick-when, yes, no}
 use Rattle.record.specs.declared.Act.{Act}
-use Rattle.record.specs.declared.Act.the-variants.{Select, Byte, End, Wait, Cut, Up}
+use Rattle.record.specs.declared.Act.the-variants.{Select, Byte, End, Wait, Cut, Up, Set}
 use Rattle.record.specs.declared.Device.{Device}
 use Rattle.record.specs.Part.{isPart}
 use Rattle.record.specs.Stages.{selected}
@@ -27,6 +27,7 @@ done-zero part arg w End = refl
 done-zero part arg w Wait = refl
 done-zero part arg w Cut = refl
 done-zero part arg w Up = refl
+done-zero part arg w (Set p) = refl
 
 -- by the table's number
 pub by-refusal :
@@ -100,6 +101,7 @@ last-below End sel = pick-case (λ (k : ℕ). k < 7) sel (omega arith) (omega ar
 last-below Wait sel = omega arith
 last-below Cut sel = omega arith
 last-below Up sel = omega arith
+last-below (Set p) sel = omega arith
 
 table-below : (part : ℕ) (act : Act) (n : ℕ) (d : Device) (ee id : ℕ) → refusalOf part act n d ee id < 7
 unfolding refusalOf

@@ -5,20 +5,20 @@ use Prim.Native.Nat.{ℕ}
 use mathlib.Core.Path.{_≡_, refl, sym, ap, subst, _∙_}
 use mathlib.Core.Bool.{false}
 use mathlib.Core.List.{List}
-use borrow.Author.Tests.{not-false, eqb-true}
+use borrow.Author.Tests.{ltb-false, not-false, eqb-true}
 use lib.Dec.{eqb}
 use lib.ListN.{length}
 use Rattle.base.specs.Wait.{Waited}
 use Rattle.base.proofs.Tests.{pick-when}
 use Rattle.record.specs.declared.Act.{Act}
-use Rattle.record.specs.declared.Act.the-variants.{Select, Byte, End, Wait, Cut, Up}
+use Rattle.record.specs.declared.Act.the-variants.{Select, Byte, End, Wait, Cut, Up, Set}
 use Rattle.record.specs.declared.Device.{Device}
 use Rattle.record.specs.Part.{bootsOf}
 use Rattle.record.specs.Stored.{wholeMask}
 use Rattle.record.proofs.WorldLaws.{page-length}
 use Rattle.record.specs.World.{World}
 use Rattle.refusals.specs.InRange.{InRange}
-use Rattle.refusals.specs.Refusal.{wrongPower, setupRefusal}
+use Rattle.refusals.specs.Refusal.{wrongArg, wrongPower, setupRefusal}
 use Rattle.refusals.proofs.RangeLaws.{in-range, out-of-range}
 use Rattle.refusals.proofs.TableLaws as table
 use Rattle.ticks.specs.Tick.{waited}
@@ -28,6 +28,7 @@ use Rattle.ticks.proofs.RangeLaws.{wait-in-range}
 use Rattle.frames.proofs.FrameLaws.{select-in-range, byte-in-range}
 use Rattle.ends.proofs.EndLaws.{end-in-range}
 use Rattle.power.specs.Power.{cutWorld}
+use Rattle.pins.proofs.SetLaws.{set-in-range}
 use Rattle.power.proofs.PowerLaws.{cut-in-range, cut-device, cut-memories, up-in-range}
 use Rattle.acts.specs.Act.{Outcome, accepted, refusalIn, performed}
 
@@ -64,18 +65,21 @@ passed-range part act arg w e = in-range part (w .device) (table.accepted part a
 pub accepted-follows :
     (part : ℕ) (act : Act) (arg : ℕ) (w : World) → InRange part (w .device) → refusalIn part act arg w ≡ 0
     → Follows part w (accepted part arg w act .after)
-accepted-follows part act arg w r e = by act (table.accepted part act arg (w .device) _ _ e .power)
+accepted-follows part act arg w r e =
+    let a = table.accepted part act arg (w .device) _ _ e in
+    by act (a .arg) (a .power)
   where
     d : Device
     d = w .device
 
-    by : (act : Act) → wrongPower act (d .power) ≡ false → Follows part w (accepted part arg w act .after)
-    by Select p = record { range = select-in-range part d (not-false _ p) r; eeprom = refl; id = refl }
-    by Byte p = record { range = byte-in-range part arg d (not-false _ p) r; eeprom = refl; id = refl }
-    by End p = record { range = end-in-range part arg d (not-false _ p) r; eeprom = refl; id = refl }
-    by Wait p = wait-follows part arg w r
-    by Cut p = cut-follows part arg w r
-    by Up p = record { range = up-in-range part d r; eeprom = refl; id = refl }
+    by : (act : Act) → wrongArg act arg ≡ false → wrongPower act (d .power) ≡ false → Follows part w (accepted part arg w act .after)
+    by Select n p = record { range = select-in-range part d (not-false _ p) r; eeprom = refl; id = refl }
+    by Byte n p = record { range = byte-in-range part arg d (not-false _ p) r; eeprom = refl; id = refl }
+    by End n p = record { range = end-in-range part arg d (not-false _ p) r; eeprom = refl; id = refl }
+    by Wait n p = wait-follows part arg w r
+    by Cut n p = cut-follows part arg w r
+    by Up n p = record { range = up-in-range part d r; eeprom = refl; id = refl }
+    by (Set q) n p = record { range = set-in-range part q arg d (ltb-false 1 arg n) r; eeprom = refl; id = refl }
 
 -- every act, refused or not
 pub performed-follows :

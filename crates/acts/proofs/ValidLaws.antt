@@ -10,7 +10,7 @@ use lib.ListN.{length}
 use Rattle.base.specs.Wait.{Waited}
 use Rattle.base.proofs.Tests.{pick-when}
 use Rattle.record.specs.declared.Act.{Act}
-use Rattle.record.specs.declared.Act.the-variants.{Select, Byte, End, Wait, Cut, Up}
+use Rattle.record.specs.declared.Act.the-variants.{Select, Byte, End, Wait, Cut, Up, Set}
 use Rattle.record.specs.declared.Device.{Device}
 use Rattle.record.specs.Part.{topOf, bootsOf}
 use Rattle.record.specs.Stored.{wholeMask}
@@ -26,6 +26,7 @@ use Rattle.ticks.proofs.WaitLaws.{wait-memories, wait-spent, wait-device, wait-
 use Rattle.frames.proofs.FrameLaws.{select-sized, byte-sized}
 use Rattle.ends.proofs.EndLaws.{end-sized}
 use Rattle.power.specs.Power.{cutWorld}
+use Rattle.pins.proofs.SetLaws.{set-sized}
 use Rattle.power.proofs.PowerLaws.{cut-sized, cut-device, cut-memories, up-sized}
 use Rattle.acts.specs.Act.{Outcome, accepted, refusalIn, performed}
 use Rattle.acts.proofs.SuitedLaws.{Follows, accepted-follows}
@@ -103,6 +104,7 @@ accepted-valid part act arg w v e =
     by Wait t = wait-made part arg w (v .range) m
     by Cut t = cut-made arg w m
     by Up t = alone _ (up-sized d z)
+    by (Set p) t = alone _ (set-sized p arg d z)
 
 -- every act, refused or not
 pub performed-valid : (part : ℕ) (act : Act) (arg : ℕ) (w : World) → Valid part w → Valid part (performed part act arg w .after)

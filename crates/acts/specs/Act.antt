@@ -1,4 +1,4 @@
--- The six acts (01's term) on a chip and its two memories: for every part, act and argument one answer, one record after it and one
+-- The acts (01's term) on a chip and its two memories: for every part, act and argument one answer, one record after it and one
 -- content of each memory, refused or not.
 -- Assumes nothing.
 use Prim.Native.Nat.{ℕ}
@@ -8,7 +8,7 @@ use lib.ListN.{length}
 use Rattle.base.specs.Wait.{Waited}
 use Rattle.base.specs.Words.{pick}
 use Rattle.record.specs.declared.Act.{Act}
-use Rattle.record.specs.declared.Act.the-variants.{Select, Byte, End, Wait, Cut, Up}
+use Rattle.record.specs.declared.Act.the-variants.{Select, Byte, End, Wait, Cut, Up, Set}
 use Rattle.record.specs.declared.Device.{Device}
 use Rattle.record.specs.declared.Reply.{Reply}
 use Rattle.record.specs.declared.Reply.the-variants.{Off}
@@ -20,6 +20,7 @@ use Rattle.replies.specs.Reply.{nextReply, leftoverReply}
 use Rattle.frames.specs.Frame.{afterByte, afterSelect}
 use Rattle.ends.specs.End.{afterEnd}
 use Rattle.power.specs.Power.{cutCount, cutWorld, afterUp}
+use Rattle.pins.specs.Set.{afterSet}
 use Rattle.acts.specs.declared.Answer.{Answer}
 
 -- W1. the number of the table, the reply on SO, a wait's ticks or a cut's count, and what is left
@@ -40,7 +41,7 @@ refused number w = outcome number Off 0 w
 abbrev pub waitedOutcome : Waited World → Outcome
 waitedOutcome r = outcome 0 Off (r .used) (r .after)
 
--- A1, A3, A5, A6, A38. What each act does that no row refuses: time passes in a wait alone; a byte has a reply, an end the first
+-- A1, A3, A5, A6, A38, V1. What each act does that no row refuses: time passes in a wait alone; a byte has a reply, an end the first
 -- bits of one, a wait and a cut a count.
 abbrev pub accepted : ℕ → ℕ → World → Act → Outcome
 accepted part arg w Select = outcome 0 Off 0 (moved w (afterSelect (w .device)))
@@ -51,6 +52,7 @@ accepted part arg w End =
 accepted part arg w Wait = waitedOutcome (waited (bootsOf part) arg w)
 accepted part arg w Cut = outcome 0 Off (cutCount arg (w .device)) (cutWorld arg w)
 accepted part arg w Up = outcome 0 Off 0 (moved w (afterUp (w .device)))
+accepted part arg w (Set p) = outcome 0 Off 0 (moved w (afterSet p arg (w .device)))
 
 -- the number of the table for an act on a world
 abbrev pub refusalIn : ℕ → Act → ℕ → World → ℕ

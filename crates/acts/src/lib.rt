@@ -1,4 +1,4 @@
-// The six acts on a chip's record and the two memories that are lent to each act.
+// The acts on a chip's record and the two memories that are lent to each act.
 use record::Act;
 use record::Device;
 use record::Reply;
@@ -115,6 +115,7 @@ fn accepted_act(
         Act::Wait => wait_act(boots, arg, d, eeprom, id),
         Act::Cut => cut_act(v, d, eeprom, id),
         Act::Up => silent(0, 0, power::cut::after_up(d)),
+        Act::Set(pin) => silent(0, 0, pins::after_set(pin, v, d)),
     }
 }
 

@@ -15,7 +15,7 @@ use Rattle.base.specs.Words.{over}
 use Rattle.base.proofs.OverLaws.{over-start, over-whole}
 use Rattle.base.proofs.Tests.{by-cases, yes, no, pick-case, pick-when}
 use Rattle.record.specs.declared.Act.{Act}
-use Rattle.record.specs.declared.Act.the-variants.{Select, Byte, End, Wait, Cut, Up}
+use Rattle.record.specs.declared.Act.the-variants.{Select, Byte, End, Wait, Cut, Up, Set}
 use Rattle.record.specs.declared.Device.{Device}
 use Rattle.record.specs.Part.{isPart, sizeOf, idSize}
 use Rattle.record.specs.Fresh.{fresh}
@@ -91,6 +91,7 @@ counts-not End w c = refl
 counts-not Wait w c = absurd (w refl)
 counts-not Cut w c = absurd (c refl)
 counts-not Up w c = refl
+counts-not (Set p) w c = refl
 
 pub replies-shown : RepliesShown
 unfolding RepliesShown

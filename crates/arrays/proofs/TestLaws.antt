@@ -4,29 +4,30 @@ use mathlib.Core.Path.{_≡_, refl, sym, ap, subst, _∙_}
 use mathlib.Core.Logic.{_≢_, ⊎-elim}
 use mathlib.Core.Bool.{Bool, true, false, not, _&&_, _||_}
 use mathlib.Core.List.{List, [], _∷_}
-use Prim.Native.Nat.{ℕ, suc, _+_, _-_, _<_, _≤_, min}
+use Prim.Native.Nat.{ℕ, _+_, _<_, _≤_}
 use native.Mathlib.Omega.{arith}
 use native.Mathlib.Numerals.{add-one}
-use borrow.Author.Tests.{lt-ltb, ltb-true, ltb-false, leb-false, leb-true, eqb-true, eq-eqb, not-false}
+use borrow.Author.Tests.{lt-ltb, ltb-true, ltb-false, leb-false, leb-true, eqb-true, eq-eqb, ne-eqb, not-false}
 use lib.Dec.{ltb, leb, eqb}
 use lib.Bits.{bitAnd}
-use lib.ListN.{length, take, drop, getD, length-append, length-take, length-drop}
+use lib.ListN.{length, getD}
 use Rattle.base.specs.Words.{pick, bit, every, anyOf}
 use Rattle.base.proofs.Tests.{by-cases, true-false, either, neither-left, neither-right, none-holds, some-holds}
 use Rattle.base.proofs.Every.{every-at, every-all, same-below}
 use Rattle.record.specs.Numbers.{stageOf}
 use Rattle.record.specs.Part.{isPart, sizeOf, bootsOf}
-use Rattle.record.specs.Registers.{kept, writable, powerDownAt, periodOf, dividerTicks, longPulse, delayTicks}
+use Rattle.record.specs.Registers.{kept, writable, powerDownAt, eventAt, periodOf, dividerTicks, longPulse, delayTicks}
 use Rattle.record.specs.Stages.{foreignToWip}
 use Rattle.record.specs.World.{Bytes}
 use Rattle.record.proofs.StampLaws.{same-masks, stamp-mask}
-use Rattle.form.specs.Table.{partIn, registerIn, startupBy, startupLimit, watchdogLimit, markBy, markLimit, kindBy, kindLimit, caseGood, valueLimit, targetLimit, leftBy, leftLimit}
-use Rattle.form.specs.Facts.{RecordFacts}
-use Rattle.form.specs.State.{countAt, arrayNumbers, isState}
+use Rattle.form.specs.Table.{partIn, registerIn, startupBy, startupLimit, watchdogLimit, markBy, markLimit, kindBy, kindLimit, caseGood, valueLimit, targetLimit, leftBy, leftLimit, edgesBy, sinceBy, debounceBy}
+use Rattle.form.specs.Facts.{RecordFacts, EventFacts}
+use Rattle.form.specs.Chip.{isRecord}
+use Rattle.form.specs.State.{countAt, arrayNumbers, stateBytes, isState}
 use Rattle.form.proofs.FactLaws.{facts-recorded, recorded-facts}
-use Rattle.form.proofs.StateLaws.{low-at, count-at, high-at, numbers-long}
+use Rattle.form.proofs.StateLaws.{low-at, count-at, high-at, event-at, numbers-long}
 use Rattle.numbers.proofs.TableLaws.{left-told}
-use Rattle.arrays.specs.Tests.{isKeptAt, clockTests, frameTests, clockBad, frameBad}
+use Rattle.arrays.specs.Tests.{isKeptAt, clockTests, frameTests, eventTests, clockBad, frameBad, eventsBad}
 
 -- a whole byte under a mask of all its bits
 whole-mask : (v : ℕ) → v < 256 → bitAnd v 0xff ≡ v
@@ -43,7 +44,7 @@ held p q = true-false q (ap not p)
 over : {n m : ℕ} → n < m → leb m n ≡ true → ⊥
 over {n} {m} h t = omega (arith, h, leb-true m n t)
 
-module _ (bs : List ℕ) (l : length bs ≡ 133) where
+module _ (bs : List ℕ) (l : length bs ≡ 142) where
   abbrev ns : List ℕ
   ns = arrayNumbers bs
 
@@ -58,22 +59,22 @@ module _ (bs : List ℕ) (l : length bs ≡ 133) where
   watchdog-at i = periodOf (low-at bs l 11 (ltb-true 11 97 refl) i)
 
   mark-at : markLimit ns ≡ markBy (eqb (getD bs 112 0) 1)
-  mark-at i = markBy (eqb (high-at bs l 0 i) 1)
+  mark-at i = markBy (eqb (high-at bs l 0 refl i) 1)
 
   kind-at : kindLimit ns ≡ kindBy (eqb (getD bs 112 0) 1)
-  kind-at i = kindBy (eqb (high-at bs l 0 i) 1)
+  kind-at i = kindBy (eqb (high-at bs l 0 refl i) 1)
 
   case-at : caseGood (getD ns 107 0) (getD ns 108 0) ≡ caseGood (getD bs 117 0) (getD bs 118 0)
-  case-at i = caseGood (high-at bs l 5 i) (high-at bs l 6 i)
+  case-at i = caseGood (high-at bs l 5 refl i) (high-at bs l 6 refl i)
 
   value-at : valueLimit (sizeOf (partIn ns)) (getD ns 107 0) (getD ns 108 0) ≡ valueLimit (sizeOf (getD bs 0 0)) (getD bs 117 0) (getD bs 118 0)
-  value-at i = valueLimit (sizeOf (part-at i)) (high-at bs l 5 i) (high-at bs l 6 i)
+  value-at i = valueLimit (sizeOf (part-at i)) (high-at bs l 5 refl i) (high-at bs l 6 refl i)
 
   place-at : targetLimit (sizeOf (partIn ns)) (getD ns 120 0) ≡ targetLimit (sizeOf (getD bs 0 0)) (getD bs 130 0)
-  place-at i = targetLimit (sizeOf (part-at i)) (high-at bs l 18 i)
+  place-at i = targetLimit (sizeOf (part-at i)) (high-at bs l 18 refl i)
 
   left-at : leftLimit ns ≡ leftBy (eqb (getD bs 112 0) 1) (foreignToWip (stageOf (getD bs 117 0) (getD bs 118 0) 0))
-  left-at = sym (left-told ns) ∙ (λ i. leftBy (eqb (high-at bs l 0 i) 1) (foreignToWip (stageOf (high-at bs l 5 i) (high-at bs l 6 i) 0)))
+  left-at = sym (left-told ns) ∙ (λ i. leftBy (eqb (high-at bs l 0 refl i) 1) (foreignToWip (stageOf (high-at bs l 5 refl i) (high-at bs l 6 refl i) 0)))
 
   register-at : (j : ℕ) → j < 32 → registerIn ns j ≡ getD bs (1 + j) 0
   register-at j h = low-at bs l (1 + j) (omega (arith, h))
@@ -104,27 +105,27 @@ module _ (bs : List ℕ) (l : length bs ≡ 133) where
         watchdog = low (count-at bs l 2) watchdog-at (leb-false _ _ watchdog);
         delay = low (count-at bs l 3) refl (leb-false _ _ delay);
         pulse = low (count-at bs l 4) refl (leb-false _ _ pulse);
-        power = low (high-at bs l 0) refl (leb-false _ _ power);
-        mark = low (high-at bs l 1) mark-at (leb-false _ _ mark);
-        wel = low (high-at bs l 2) refl (leb-false _ _ wel);
-        protection = low (high-at bs l 3) refl (leb-false _ _ bp);
-        lock = low (high-at bs l 4) refl (leb-false _ _ lock);
-        kind = low (high-at bs l 5) kind-at (leb-false _ _ kind);
+        power = low (high-at bs l 0 refl) refl (leb-false _ _ power);
+        mark = low (high-at bs l 1 refl) mark-at (leb-false _ _ mark);
+        wel = low (high-at bs l 2 refl) refl (leb-false _ _ wel);
+        protection = low (high-at bs l 3 refl) refl (leb-false _ _ bp);
+        lock = low (high-at bs l 4 refl) refl (leb-false _ _ lock);
+        kind = low (high-at bs l 5 refl) kind-at (leb-false _ _ kind);
         which = case-at ∙ not-false _ which;
-        value = low (high-at bs l 7) value-at (leb-false _ _ value);
-        offsets = low (high-at bs l 8) refl (b 120);
-        load = λ j h. low (load-at j) refl (b (121 + j));
-        next = low (high-at bs l 17) refl (leb-false _ _ next);
-        target = low (high-at bs l 18) refl (leb-false _ _ target);
-        place = low (high-at bs l 19) place-at (leb-false _ _ place);
-        left = low (high-at bs l 20) left-at (leb-false _ _ left);
+        value = low (high-at bs l 7 refl) value-at (leb-false _ _ value);
+        offsets = low (high-at bs l 8 refl) refl (b 120);
+        load = λ j h. low (load-at j (lt-ltb (9 + j) 21 (omega (arith, h)))) refl (b (121 + j));
+        next = low (high-at bs l 17 refl) refl (leb-false _ _ next);
+        target = low (high-at bs l 18 refl) refl (leb-false _ _ target);
+        place = low (high-at bs l 19 refl) place-at (leb-false _ _ place);
+        left = low (high-at bs l 20 refl) left-at (leb-false _ _ left);
       }
     where
-      load-at : (j : ℕ) → getD ns (111 + j) 0 ≡ getD bs (121 + j) 0
-      load-at j =
+      load-at : (j : ℕ) → ltb (9 + j) 21 ≡ true → getD ns (111 + j) 0 ≡ getD bs (121 + j) 0
+      load-at j t =
           let p : 111 + j ≡ 102 + (9 + j) = omega arith in
           let q : 112 + (9 + j) ≡ 121 + j = omega arith in
-          ap (λ (k : ℕ). getD ns k 0) p ∙ high-at bs l (9 + j) ∙ ap (λ (k : ℕ). getD bs k 0) q
+          ap (λ (k : ℕ). getD ns k 0) p ∙ high-at bs l (9 + j) t ∙ ap (λ (k : ℕ). getD bs k 0) q
 
   -- where the facts hold, no test does
   clock-clear : RecordFacts ns → clockBad bs ≡ true → ⊥
@@ -140,19 +141,59 @@ module _ (bs : List ℕ) (l : length bs ≡ 133) where
   unfolding frameBad
   frame-clear f e =
       some-holds (frameTests bs) e
-      (over (low (sym (high-at bs l 0)) refl (f .power)), (over (low (sym (high-at bs l 1)) (sym mark-at) (f .mark)), (over (low (sym (high-at bs l 2)) refl (f .wel)), (over (low (sym (high-at bs l 3)) refl (f .protection)), (over (low (sym (high-at bs l 4)) refl (f .lock)), (over (low (sym (high-at bs l 5)) (sym kind-at) (f .kind)), (held (sym case-at ∙ f .which), (over (low (sym (high-at bs l 7)) (sym value-at) (f .value)), (over (low (sym (high-at bs l 17)) refl (f .next)), (over (low (sym (high-at bs l 18)) refl (f .target)), (over (low (sym (high-at bs l 19)) (sym place-at) (f .place)), (over (low (sym (high-at bs l 20)) (sym left-at) (f .left)), tt))))))))))))
+      (over (low (sym (high-at bs l 0 refl)) refl (f .power)), (over (low (sym (high-at bs l 1 refl)) (sym mark-at) (f .mark)), (over (low (sym (high-at bs l 2 refl)) refl (f .wel)), (over (low (sym (high-at bs l 3 refl)) refl (f .protection)), (over (low (sym (high-at bs l 4 refl)) refl (f .lock)), (over (low (sym (high-at bs l 5 refl)) (sym kind-at) (f .kind)), (held (sym case-at ∙ f .which), (over (low (sym (high-at bs l 7 refl)) (sym value-at) (f .value)), (over (low (sym (high-at bs l 17 refl)) refl (f .next)), (over (low (sym (high-at bs l 18 refl)) refl (f .target)), (over (low (sym (high-at bs l 19 refl)) (sym place-at) (f .place)), (over (low (sym (high-at bs l 20 refl)) (sym left-at) (f .left)), tt))))))))))))
 
-  pub state-told : Bytes bs → not (clockBad bs || frameBad bs) ≡ isState bs
+  -- the same of the event inputs
+  control-at : registerIn ns eventAt ≡ getD bs 12 0
+  control-at = register-at 11 (ltb-true 11 32 refl)
+
+  clear-events : eventsBad bs ≡ false → EventFacts 123 ns
+  unfolding eventsBad
+  clear-events e =
+      let (door, (drum, (edges, (since, (debounce, _))))) = none-holds (eventTests bs) e in
+      record {
+        door = low (event-at bs l 0) refl (leb-false _ _ door);
+        drum = low (event-at bs l 1) refl (leb-false _ _ drum);
+        edges = low (event-at bs l 2) (ap edgesBy control-at) (leb-false _ _ edges);
+        since = low (event-at bs l 3) (ap sinceBy (event-at bs l 2)) (leb-false _ _ since);
+        debounce = low (event-at bs l 4) (λ i. debounceBy (control-at i) (event-at bs l 0 i)) (leb-false _ _ debounce);
+      }
+
+  events-clear : EventFacts 123 ns → eventsBad bs ≡ true → ⊥
+  unfolding eventsBad
+  events-clear f e =
+      some-holds (eventTests bs) e
+      (over (low (sym (event-at bs l 0)) refl (f .door)), (over (low (sym (event-at bs l 1)) refl (f .drum)), (over (low (sym (event-at bs l 2)) (sym (ap edgesBy control-at)) (f .edges)), (over (low (sym (event-at bs l 3)) (sym (ap sinceBy (event-at bs l 2))) (f .since)), (over (low (sym (event-at bs l 4)) (λ i. debounceBy (sym control-at i) (sym (event-at bs l 0) i)) (f .debounce)), tt)))))
+
+  -- an array of its length is a chip's where its numbers are
+  by-numbers : isState bs ≡ isRecord ns
   unfolding isState
+  by-numbers = ap (λ (t : Bool). t && isRecord ns) (eq-eqb (length bs) stateBytes l)
+
+  pub state-told : Bytes bs → not (clockBad bs || frameBad bs || eventsBad bs) ≡ isState bs
   state-told b =
-      by-cases (clockBad bs || frameBad bs)
+      let t₁ = clockBad bs in
+      let t₂ = frameBad bs in
+      let t₃ = eventsBad bs in
+      by-cases (t₁ || t₂ || t₃)
       (λ t.
       ap not t
-      ∙ by-cases (isState bs)
-      (λ s. absurd (⊎-elim (clock-clear (recorded-facts ns s .0)) (frame-clear (recorded-facts ns s .0)) (either (clockBad bs) (frameBad bs) t))) (λ s. sym s))
+      ∙ by-cases (isRecord ns)
+      (λ s.
+      let f = recorded-facts ns s in
+      absurd (⊎-elim (λ u. ⊎-elim (clock-clear (f .first)) (frame-clear (f .first)) (either t₁ t₂ u)) (events-clear (f .events)) (either (t₁ || t₂) t₃ t)))
+      (λ s. sym (by-numbers ∙ s)))
       (λ t.
+      let u = neither-left (t₁ || t₂) t₃ t in
       ap not t
-      ∙ sym (facts-recorded ns (clear-facts b (neither-left (clockBad bs) (frameBad bs) t) (neither-right (clockBad bs) (frameBad bs) t)) (numbers-long bs l)))
+      ∙ sym
+      (by-numbers
+      ∙ facts-recorded ns
+      (record {
+        first = clear-facts b (neither-left t₁ t₂ u) (neither-right t₁ t₂ u);
+        long = numbers-long bs l;
+        events = clear-events (neither-right (t₁ || t₂) t₃ t);
+      })))
 
 -- how a loop with no early way out builds the tests of every place
 neither-not : (a b : Bool) → (not a || not b) ≡ not (a && b)
@@ -218,12 +259,21 @@ frame-by bs power kind which target part size case mark kinds value place left a
     ∷ leb ((left ∙ (λ k. leftBy (eqb (power k) 1) (foreignToWip (stageOf (kind k) (which k) 0)))) i) (d i)
     ∷ [])
 
+pub events-by :
+    (bs : List ℕ) {control door edges first since debounce a c : ℕ} → control ≡ getD bs 12 0 → door ≡ getD bs 133 0 → edges ≡ getD bs 135 0
+    → first ≡ edgesBy control → since ≡ sinceBy edges → a ≡ countAt bs 136 → debounce ≡ debounceBy control door → c ≡ countAt bs 139
+    → anyOf (leb 2 door ∷ leb 2 (getD bs 134 0) ∷ leb first edges ∷ leb since a ∷ leb debounce c ∷ []) ≡ eventsBad bs
+unfolding eventsBad
+events-by bs control door edges first since a debounce c i =
+    anyOf
+    (leb 2 (door i)
+    ∷ leb 2 (getD bs 134 0)
+    ∷ leb ((first ∙ ap edgesBy control) i) (edges i)
+    ∷ leb ((since ∙ ap sinceBy edges) i) (a i)
+    ∷ leb ((debounce ∙ (λ k. debounceBy (control k) (door k))) i) (c i)
+    ∷ [])
+
 -- an array of another length is no chip's
-pub state-short : (bs : List ℕ) → length bs ≢ 133 → false ≡ isState bs
-unfolding isState arrayNumbers
-state-short bs h =
-    by-cases (isState bs)
-    (λ t. absurd (h (long (length-append (take 97 bs) _) (length-take 97 bs) (length-drop 112 bs) (recorded-facts (arrayNumbers bs) t .1)))) (λ t. sym t)
-  where
-    long : {n a b c : ℕ} → n ≡ a + suc (suc (suc (suc (suc b)))) → a ≡ min 97 c → b ≡ c - 112 → n ≡ 123 → c ≡ 133
-    long p q r s = omega (arith, p, q, r, s)
+pub state-short : (bs : List ℕ) → length bs ≢ 142 → false ≡ isState bs
+unfolding isState
+state-short bs h = sym (ap (λ (t : Bool). t && isRecord (arrayNumbers bs)) (ne-eqb (length bs) stateBytes h))

@@ -4,6 +4,7 @@ use mathlib.Core.Path.{_≡_, refl}
 use mathlib.Core.Bool.{true, false}
 use mathlib.Core.List.{List, [], _∷_}
 use lib.ListN.{set}
+use Rattle.events.specs.Control.{pullsIrq}
 use Rattle.record.specs.declared.Device.{Device}
 use Rattle.record.specs.declared.Reply.the-variants.{Driven, Off}
 use Rattle.record.specs.Fresh.{fresh}
@@ -37,5 +38,5 @@ AnswersShown =
     × (arraysRefusal 1 128 16 true ≡ 0)
 
 pub answers-shown : AnswersShown
-unfolding AnswersShown fresh irqLow wdoLow
+unfolding AnswersShown fresh irqLow wdoLow pullsIrq
 answers-shown = (refl, refl, refl, refl, refl, refl, refl, refl, refl, refl, refl, refl)

@@ -12,7 +12,7 @@ use Rattle.record.specs.Numbers.{stageOf}
 use Rattle.record.specs.Part.{isPart, sizeOf, bootsOf}
 use Rattle.record.specs.Registers.{writable, powerDownAt, periodOf, dividerTicks, longPulse, delayTicks}
 use Rattle.record.specs.Stages.{foreignToWip}
-use Rattle.form.specs.Table.{startupBy, markBy, kindBy, caseGood, valueLimit, targetLimit, leftBy}
+use Rattle.form.specs.Table.{startupBy, markBy, kindBy, caseGood, valueLimit, targetLimit, leftBy, edgesBy, sinceBy, debounceBy}
 use Rattle.form.specs.State.{countAt}
 
 -- register j, below the time-stamps, has no bit outside its mask
@@ -31,7 +31,7 @@ clockTests bs =
     ∷ leb (1 + longPulse) (countAt bs 109)
     ∷ []
 
--- power, latch and lock, the frame, its load, and the cycle.
+-- power, latch and lock, the frame, its load, and the cycle;
 abbrev pub frameTests : List ℕ → List Bool
 frameTests bs =
     leb 2 (getD bs 112 0)
@@ -48,8 +48,21 @@ frameTests bs =
     ∷ leb (leftBy (eqb (getD bs 112 0) 1) (foreignToWip (stageOf (getD bs 117 0) (getD bs 118 0) 0))) (getD bs 132 0)
     ∷ []
 
+-- and the event inputs.
+abbrev pub eventTests : List ℕ → List Bool
+eventTests bs =
+    leb 2 (getD bs 133 0)
+    ∷ leb 2 (getD bs 134 0)
+    ∷ leb (edgesBy (getD bs 12 0)) (getD bs 135 0)
+    ∷ leb (sinceBy (getD bs 135 0)) (countAt bs 136)
+    ∷ leb (debounceBy (getD bs 12 0) (getD bs 133 0)) (countAt bs 139)
+    ∷ []
+
 unfoldable pub clockBad : List ℕ → Bool
 clockBad bs = anyOf (clockTests bs)
 
 unfoldable pub frameBad : List ℕ → Bool
 frameBad bs = anyOf (frameTests bs)
+
+unfoldable pub eventsBad : List ℕ → Bool
+eventsBad bs = anyOf (eventTests bs)

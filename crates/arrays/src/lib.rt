@@ -1,4 +1,5 @@
 // The arrays of a caller in another language: a state array judged, read and written; the numbers of an answer.
+use events::Events;
 use numbers::table;
 use record::Counters;
 use record::Cycle;
@@ -20,12 +21,12 @@ ghost use lib.ListN.{length, take, drop};
 ghost use Rattle.base.specs.Words.{flag, every};
 ghost use Rattle.record.specs.Registers.{powerDownAt};
 ghost use Rattle.form.specs.Chip.{deviceOf, tailNumbers};
-ghost use Rattle.form.specs.State.{countOf, headBytes, arrayNumbers, isState, stateOf};
-ghost use Rattle.arrays.specs.Tests.{isKeptAt, clockBad, frameBad};
+ghost use Rattle.form.specs.State.{countOf, headBytes, eventBytes, arrayNumbers, isState, stateOf};
+ghost use Rattle.arrays.specs.Tests.{isKeptAt, clockBad, frameBad, eventsBad};
 ghost use Rattle.arrays.specs.Arrays.{partOf, arraysRefusal, drives, drivenByte, answerOf};
 
 // Bytes of a state array, numbers of an answer.
-pub const STATE: usize = 133;
+pub const STATE: usize = 142;
 
 pub const ANSWER: usize = 6;
 
@@ -46,7 +47,7 @@ fn count_of(a: u8, b: u8, c: u8) -> u64
 
 // Some register has a bit outside its mask; a time-stamp may hold any. No early way out, so that the compiler takes several at a time.
 fn bits_outside(state: &[u8]) -> bool
-    requires { ⌜ length (now state) ≡ 133 ⌝ }
+    requires { ⌜ length (now state) ≡ 142 ⌝ }
     ensures { λ r. ⌜ r ≡ not (every (isKeptAt (now (state .entry))) powerDownAt) ⌝ }
 {
     let masks = registers::WRITABLE;
@@ -72,7 +73,7 @@ pub fn part_of(state: &[u8]) -> u8
 
 // Part, registers and counts of an array of its length.
 fn clock_bad(state: &[u8]) -> bool
-    requires { ⌜ length (now state) ≡ 133 ⌝ }
+    requires { ⌜ length (now state) ≡ 142 ⌝ }
     ensures { λ r. ⌜ r ≡ clockBad (now (state .entry)) ⌝ }
 {
     let part = wide(state[0]);
@@ -91,7 +92,7 @@ fn clock_bad(state: &[u8]) -> bool
 
 // Power, latch and lock, the frame, its load, and the cycle.
 fn frame_bad(state: &[u8]) -> bool
-    requires { ⌜ length (now state) ≡ 133 ⌝ }
+    requires { ⌜ length (now state) ≡ 142 ⌝ }
     ensures { λ r. ⌜ r ≡ frameBad (now (state .entry)) ⌝ }
 {
     let power = wide(state[112]);
@@ -114,6 +115,21 @@ fn frame_bad(state: &[u8]) -> bool
         | (table::left_limit(power, kind, which) <= wide(state[132]))
 }
 
+// The event inputs.
+fn events_bad(state: &[u8]) -> bool
+    requires { ⌜ length (now state) ≡ 142 ⌝ }
+    ensures { λ r. ⌜ r ≡ eventsBad (now (state .entry)) ⌝ }
+{
+    let control = wide(state[12]);
+    let door = wide(state[133]);
+    let edges = wide(state[135]);
+    (2 <= door)
+        | (2 <= state[134])
+        | (table::edges_limit(control) <= edges)
+        | (table::since_limit(edges) <= count_of(state[136], state[137], state[138]))
+        | (table::debounce_limit(control, door) <= count_of(state[139], state[140], state[141]))
+}
+
 // The table of the saved form has the array's numbers for part and record.
 pub fn is_state(state: &[u8]) -> bool
     ensures { λ r. ⌜ r ≡ isState (now (state .entry)) ⌝ }
@@ -121,7 +137,7 @@ pub fn is_state(state: &[u8]) -> bool
     if state.len() != STATE {
         return false;
     }
-    !(clock_bad(state) | frame_bad(state))
+    !(clock_bad(state) | frame_bad(state) | events_bad(state))
 }
 
 // Bytes from a place on, as many as there is room for.
@@ -138,7 +154,7 @@ fn copy_from(state: &[u8], at: usize, into: &mut [u8])
 
 // Registers, SRAM and the bytes of a load, of an array of its length.
 fn registers_in(state: &[u8]) -> [u8; 32]
-    requires { ⌜ length (now state) ≡ 133 ⌝ }
+    requires { ⌜ length (now state) ≡ 142 ⌝ }
     ensures { λ r. ⌜ r ≡ take 32 (drop 1 (now (state .entry))) ⌝ }
 {
     let mut regs = [0u8; 32];
@@ -147,7 +163,7 @@ fn registers_in(state: &[u8]) -> [u8; 32]
 }
 
 fn sram_in(state: &[u8]) -> [u8; 64]
-    requires { ⌜ length (now state) ≡ 133 ⌝ }
+    requires { ⌜ length (now state) ≡ 142 ⌝ }
     ensures { λ r. ⌜ r ≡ take 64 (drop 33 (now (state .entry))) ⌝ }
 {
     let mut sram = [0u8; 64];
@@ -156,7 +172,7 @@ fn sram_in(state: &[u8]) -> [u8; 64]
 }
 
 fn load_in(state: &[u8]) -> [u8; 8]
-    requires { ⌜ length (now state) ≡ 133 ⌝ }
+    requires { ⌜ length (now state) ≡ 142 ⌝ }
     ensures { λ r. ⌜ r ≡ take 8 (drop 121 (now (state .entry))) ⌝ }
 {
     let mut load = [0u8; 8];
@@ -165,7 +181,7 @@ fn load_in(state: &[u8]) -> [u8; 8]
 }
 
 fn counters_in(state: &[u8]) -> Counters
-    requires { ⌜ length (now state) ≡ 133 ⌝ }
+    requires { ⌜ length (now state) ≡ 142 ⌝ }
     requires { ⌜ isState (now state) ≡ true ⌝ }
     ensures { λ r. ⌜ r ≡ deviceOf (arrayNumbers (now (state .entry))) .counters ⌝ }
 {
@@ -178,9 +194,23 @@ fn counters_in(state: &[u8]) -> Counters
     }
 }
 
+fn events_in(state: &[u8]) -> Events
+    requires { ⌜ length (now state) ≡ 142 ⌝ }
+    requires { ⌜ isState (now state) ≡ true ⌝ }
+    ensures { λ r. ⌜ r ≡ deviceOf (arrayNumbers (now (state .entry))) .events ⌝ }
+{
+    Events {
+        door: state[133],
+        drum: state[134],
+        edges: state[135],
+        since: count_of(state[136], state[137], state[138]) as u16,
+        debounce: count_of(state[139], state[140], state[141]) as u16,
+    }
+}
+
 // The record of an array that is a chip's.
 pub fn device_in(state: &[u8]) -> Device
-    requires { ⌜ length (now state) ≡ 133 ⌝ }
+    requires { ⌜ length (now state) ≡ 142 ⌝ }
     requires { ⌜ isState (now state) ≡ true ⌝ }
     ensures { λ r. ⌜ r ≡ deviceOf (arrayNumbers (now (state .entry))) ⌝ }
 {
@@ -192,6 +222,7 @@ pub fn device_in(state: &[u8]) -> Device
     let stage = numbers::stage_of(state[117], state[118], state[119]);
     let bytes = load_in(state);
     let target = numbers::target_of(state[130], state[131]);
+    let events = events_in(state);
     Device {
         regs,
         sram,
@@ -213,6 +244,7 @@ pub fn device_in(state: &[u8]) -> Device
             target,
             left: state[132],
         },
+        events,
     }
 }
 
@@ -273,15 +305,26 @@ fn head_bytes(d: Device) -> [u8; 24]
     ]
 }
 
-fn cycle_bytes(load: Load, cycle: Cycle) -> [u8; 4]
-    ensures { λ r. ⌜ r ≡ tailNumbers load cycle ⌝ }
+fn tail_bytes(load: Load, cycle: Cycle, e: Events) -> [u8; 13]
+    ensures { λ r. ⌜ r ≡ tailNumbers load cycle ++ eventBytes e ⌝ }
 {
     let target = cycle.target;
+    let since = e.since as u32;
+    let debounce = e.debounce as u32;
     [
         load.next,
         numbers::target_kind(target),
         numbers::target_value(target),
         cycle.left,
+        e.door,
+        e.drum,
+        e.edges,
+        least(since),
+        least(since / 256),
+        least(since / 65536),
+        least(debounce),
+        least(debounce / 256),
+        least(debounce / 65536),
     ]
 }
 
@@ -294,7 +337,7 @@ fn put_front(part: u8, regs: [u8; 32], sram: [u8; 64], into: &mut [u8]) -> usize
     buffer::put(&sram, into, b)
 }
 
-fn put_back(head: [u8; 24], load: [u8; 8], tail: [u8; 4], into: &mut [u8], at: usize) -> usize
+fn put_back(head: [u8; 24], load: [u8; 8], tail: [u8; 13], into: &mut [u8], at: usize) -> usize
     requires { ⌜ at + length ((head ++ load) ++ tail) ≤ length (now into) ⌝ }
     ensures { λ r. ⌜ buffer (now (into .exit)) r ≡ append (buffer (now (into .entry)) at) ((head ++ load) ++ tail) ⌝ }
 {
@@ -305,16 +348,17 @@ fn put_back(head: [u8; 24], load: [u8; 8], tail: [u8; 4], into: &mut [u8], at: u
 
 // The array of a record.
 pub fn put_state(part: u8, d: Device, into: &mut [u8])
-    requires { ⌜ length (now into) ≡ 133 ⌝ }
+    requires { ⌜ length (now into) ≡ 142 ⌝ }
     ensures { λ _. ⌜ now (into .exit) ≡ stateOf part d ⌝ }
 {
     let regs = d.regs;
     let sram = d.sram;
     let load = d.load;
     let cycle = d.cycle;
+    let events = d.events;
     let bytes = load.bytes;
     let head = head_bytes(d);
-    let tail = cycle_bytes(load, cycle);
+    let tail = tail_bytes(load, cycle, events);
     let at = put_front(part, regs, sram, into);
     put_back(head, bytes, tail, into, at);
 }

@@ -15,7 +15,7 @@ use Rattle.record.specs.declared.Act.{Act}
 use Rattle.record.specs.declared.Device.{Device}
 use Rattle.record.specs.declared.Reply.the-variants.{Off}
 use Rattle.record.specs.Fresh.{fresh}
-use Rattle.record.specs.Numbers.{actOf}
+use Rattle.record.specs.Numbers.{actCount, actOf}
 use Rattle.record.specs.Part.{isPart, sizeOf, idSize}
 use Rattle.record.specs.World.{World, world}
 use Rattle.refusals.specs.Range.{outOfRange}
@@ -24,9 +24,9 @@ use Rattle.refusals.proofs.RangeLaws.{out-of-range}
 use Rattle.refusals.proofs.TableLaws.{Suited, setup-passes}
 use Rattle.form.specs.Form.{Loaded, loaded, bad, load}
 use Rattle.form.specs.Table.{partIn, chipForm}
-use Rattle.form.specs.Chip.{deviceOf}
+use Rattle.form.specs.Chip.{deviceOf, isRecord}
 use Rattle.form.specs.Save.{Saving, saves, Loading, loadAnswer, loads}
-use Rattle.form.specs.State.{arrayNumbers, isState, stateOf}
+use Rattle.form.specs.State.{arrayNumbers, stateBytes, isState, stateOf}
 use Rattle.form.proofs.ChipLaws.{recorded-sound}
 use Rattle.form.proofs.SavedLaws.{saved-right}
 use Rattle.form.proofs.StateLaws.{low-at}
@@ -79,15 +79,15 @@ module _ (part k : ℕ) (a : Arrays) (e : k ≡ newRefusal part a) where
       ∙ no (called 0 [] (freshIn part a)) (called (newRefusal part a) [] a) (ne-eqb (newRefusal part a) 0 (λ q. h (e ∙ q)))
 
   module _ (z : k ≡ 0) where
-    pub new-long : length (a .state) ≡ 133
-    new-long = eqb-true _ _ (is-there part (length (a .eeprom)) (length (a .id)) k (eqb (length (a .state)) 133) e z)
+    pub new-long : length (a .state) ≡ 142
+    new-long = eqb-true _ _ (is-there part (length (a .eeprom)) (length (a .id)) k (eqb (length (a .state)) 142) e z)
 
     pub new-done :
         (state ee id : List ℕ) (d : Device) → state ≡ stateOf (part % 256) d → d ≡ fresh → ee ≡ replicate (length (a .eeprom)) 255
         → id ≡ replicate (length (a .id)) 255 → called 0 [] (arrays state ee id) ≡ newly part a
     unfolding newly
     new-done state ee id d s f p q =
-        let b = part-byte part (named part (length (a .eeprom)) (length (a .id)) k (eqb (length (a .state)) 133) e z) in
+        let b = part-byte part (named part (length (a .eeprom)) (length (a .id)) k (eqb (length (a .state)) 142) e z) in
         (λ i. called 0 [] (arrays ((s ∙ (λ j. stateOf (b j) (f j))) i) (p i) (q i)))
         ∙ yes (called 0 [] (freshIn part a)) (called (newRefusal part a) [] a) (eq-eqb (newRefusal part a) 0 (sym e ∙ z))
 
@@ -96,8 +96,8 @@ module _ (bs : List ℕ) (ee id k : ℕ) (e : k ≡ arraysRefusal (partOf bs) ee
   pub state-there : isState bs ≡ true
   state-there = is-there (partOf bs) ee id k (isState bs) e z
 
-  pub state-long : length bs ≡ 133
-  state-long = by-cases (eqb (length bs) 133) (λ t. eqb-true _ _ t) (λ t. absurd (true-false state-there (sym (state-short bs (λ q. true-false (eq-eqb _ _ q) t)))))
+  pub state-long : length bs ≡ 142
+  state-long = by-cases (eqb (length bs) 142) (λ t. eqb-true _ _ t) (λ t. absurd (true-false state-there (sym (state-short bs (λ q. true-false (eq-eqb _ _ q) t)))))
 
   pub part-there : partOf bs ≡ partIn (arrayNumbers bs)
   part-there = sym (low-at bs state-long 0 (omega arith))
@@ -111,7 +111,7 @@ module _ (bs : List ℕ) (ee id k : ℕ) (e : k ≡ arraysRefusal (partOf bs) ee
         ids = id-fits (partOf bs) ee id k (isState bs) e z;
         ranged =
             ap (λ (p : ℕ). outOfRange p (deviceOf (arrayNumbers bs))) part-there
-            ∙ out-of-range (partIn (arrayNumbers bs)) (deviceOf (arrayNumbers bs)) (recorded-sound (arrayNumbers bs) state-there .range);
+            ∙ out-of-range (partIn (arrayNumbers bs)) (deviceOf (arrayNumbers bs)) (recorded-sound (arrayNumbers bs) (both-right (eqb (length bs) stateBytes) (isRecord (arrayNumbers bs)) state-there) .range);
       }
 
   pub setup-there : (part : ℕ) (d : Device) → part ≡ partOf bs → d ≡ deviceOf (arrayNumbers bs) → setupRefusal part d ee id ≡ 0
@@ -128,7 +128,7 @@ module _ (a : Arrays) (k : ℕ) (e : k ≡ arraysRefusal (partOf (a .state)) (le
     done = told (partOf (a .state)) (performed (partOf (a .state)) (actOf act) arg (worldIn a))
 
     abbrev judging : Called
-    judging = pick (ltb act 6) done (noAct a)
+    judging = pick (ltb act actCount) done (noAct a)
 
     pub act-refused : k ≢ 0 → called k (noChip k) a ≡ acts a act arg
     unfolding acts
@@ -142,11 +142,11 @@ module _ (a : Arrays) (k : ℕ) (e : k ≡ arraysRefusal (partOf (a .state)) (le
       judged = yes judging (called (stateRefusal a) (noChip (stateRefusal a)) a) (eq-eqb (stateRefusal a) 0 (sym refused-by ∙ z))
 
       pub act-none :
-          (answer : List ℕ) (d : Device) → 5 < act → answer ≡ answerOf 3 Off 0 d → d ≡ worldIn a .device → called 3 answer a ≡ acts a act arg
-      act-none answer d h p q = (λ i. called 3 ((p ∙ ap (answerOf 3 Off 0) q) i) a) ∙ no done (noAct a) (le-ltb act 6 (omega (arith, h))) ∙ judged
+          (answer : List ℕ) (d : Device) → 7 < act → answer ≡ answerOf 3 Off 0 d → d ≡ worldIn a .device → called 3 answer a ≡ acts a act arg
+      act-none answer d h p q = (λ i. called 3 ((p ∙ ap (answerOf 3 Off 0) q) i) a) ∙ no done (noAct a) (le-ltb act actCount (omega (arith, h))) ∙ judged
 
       pub act-done :
-          (part : ℕ) (state ee id answer : List ℕ) (d : Device) (code : Act) (r : Answer) → part ≡ partOf (a .state) → act ≤ 5 → code ≡ actOf act
+          (part : ℕ) (state ee id answer : List ℕ) (d : Device) (code : Act) (r : Answer) → part ≡ partOf (a .state) → act ≤ 7 → code ≡ actOf act
           → d ≡ worldIn a .device
           → outcomeOf r ee id ≡ performed part code arg (world d (a .eeprom) (a .id)) → state ≡ stateOf part (r .device)
           → answer ≡ answerOf (r .number) (r .reply) (r .count) (r .device) → called (r .number) answer (arrays state ee id) ≡ acts a act arg
@@ -154,7 +154,7 @@ module _ (a : Arrays) (k : ℕ) (e : k ≡ arraysRefusal (partOf (a .state)) (le
           (λ i. called (r .number) (p i) (arrays (s i) ee id))
           ∙ ap (told part) (o ∙ (λ i. performed part (c i) arg (world (q i) (a .eeprom) (a .id))))
           ∙ ap (λ (n : ℕ). told n (performed n (actOf act) arg (worldIn a))) pe
-          ∙ yes done (noAct a) (lt-ltb act 6 (omega (arith, h)))
+          ∙ yes done (noAct a) (lt-ltb act actCount (omega (arith, h)))
           ∙ judged
 
   module _ (room : List ℕ) where
@@ -190,14 +190,14 @@ module _ (text : List ℕ) (a : Arrays) where
   abbrev reads : Loading
   reads = loads text 0 (world fresh (a .eeprom) (a .id))
 
-  pub load-short : length (a .state) ≢ 133 → called 6 (0 ∷ []) a ≡ loadsState text a
+  pub load-short : length (a .state) ≢ 142 → called 6 (0 ∷ []) a ≡ loadsState text a
   unfolding loadsState
-  load-short h = no (loadedOf reads a) (called 6 (0 ∷ []) a) (ne-eqb (length (a .state)) 133 h)
+  load-short h = no (loadedOf reads a) (called 6 (0 ∷ []) a) (ne-eqb (length (a .state)) 142 h)
 
-  module _ (l : length (a .state) ≡ 133) (r : Loading) (e : r ≡ reads) where
+  module _ (l : length (a .state) ≡ 142) (r : Loading) (e : r ≡ reads) where
     long-enough : loadedOf reads a ≡ loadsState text a
     unfolding loadsState
-    long-enough = yes (loadedOf reads a) (called 6 (0 ∷ []) a) (eq-eqb (length (a .state)) 133 l)
+    long-enough = yes (loadedOf reads a) (called 6 (0 ∷ []) a) (eq-eqb (length (a .state)) 142 l)
 
     -- a load that is refused leaves the memories
     left-alone : reads .number ≢ 0 → reads .world ≡ world fresh (a .eeprom) (a .id)

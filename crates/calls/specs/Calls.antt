@@ -7,11 +7,11 @@ use lib.ListN.{length, replicate}
 use Rattle.base.specs.Words.{pick}
 use Rattle.record.specs.declared.Reply.the-variants.{Off}
 use Rattle.record.specs.Fresh.{fresh}
-use Rattle.record.specs.Numbers.{actOf}
+use Rattle.record.specs.Numbers.{actCount, actOf}
 use Rattle.record.specs.World.{World, world}
 use Rattle.form.specs.Chip.{deviceOf}
 use Rattle.form.specs.Save.{Saving, saves, Loading, loads}
-use Rattle.form.specs.State.{arrayNumbers}
+use Rattle.form.specs.State.{arrayNumbers, stateBytes}
 use Rattle.acts.specs.Act.{Outcome, performed}
 use Rattle.arrays.specs.Arrays.{Arrays, arraysOf, partOf, arraysRefusal, stateRefusal, answerOf, noChip}
 
@@ -28,16 +28,12 @@ called number answer after = record { number = number; answer = answer; after = 
 abbrev pub worldIn : Arrays → World
 worldIn a = world (deviceOf (arrayNumbers (a .state))) (a .eeprom) (a .id)
 
--- I1. how long a state array is
-abbrev pub stateLength : ℕ
-stateLength = 133
-
 -- I2. a fresh chip in the arrays
 abbrev pub freshIn : ℕ → Arrays → Arrays
 freshIn part a = arraysOf part (world fresh (replicate (length (a .eeprom)) 255) (replicate (length (a .id)) 255))
 
 abbrev pub newRefusal : ℕ → Arrays → ℕ
-newRefusal part a = arraysRefusal part (length (a .eeprom)) (length (a .id)) (eqb (length (a .state)) stateLength)
+newRefusal part a = arraysRefusal part (length (a .eeprom)) (length (a .id)) (eqb (length (a .state)) stateBytes)
 
 unfoldable pub newly : ℕ → Arrays → Called
 newly part a = pick (eqb (newRefusal part a) 0) (called 0 [] (freshIn part a)) (called (newRefusal part a) [] a)
@@ -54,7 +50,7 @@ noAct a = called 3 (answerOf 3 Off 0 (worldIn a .device)) a
 unfoldable pub acts : Arrays → ℕ → ℕ → Called
 acts a act arg =
     pick (eqb (stateRefusal a) 0)
-    (pick (ltb act 6) (told (partOf (a .state)) (performed (partOf (a .state)) (actOf act) arg (worldIn a))) (noAct a))
+    (pick (ltb act actCount) (told (partOf (a .state)) (performed (partOf (a .state)) (actOf act) arg (worldIn a))) (noAct a))
     (called (stateRefusal a) (noChip (stateRefusal a)) a)
 
 -- I6. a save: its number, the text's length, and the text's room after it
@@ -79,4 +75,4 @@ loadedOf l a = pick (eqb (l .number) 0) (called 0 (l .line ∷ []) (arraysOf (l 
 
 unfoldable pub loadsState : List ℕ → Arrays → Called
 loadsState text a =
-    pick (eqb (length (a .state)) stateLength) (loadedOf (loads text 0 (world fresh (a .eeprom) (a .id))) a) (called 6 (0 ∷ []) a)
+    pick (eqb (length (a .state)) stateBytes) (loadedOf (loads text 0 (world fresh (a .eeprom) (a .id))) a) (called 6 (0 ∷ []) a)

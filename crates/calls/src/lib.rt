@@ -25,7 +25,7 @@ pub extern "C" fn mcp795_act(
     }
     let part = arrays::part_of(state);
     let device = arrays::device_in(state);
-    if 5 < act {
+    if 7 < act {
         arrays::put_answer(3, Reply::Off, 0, device, answer);
         return 3;
     }

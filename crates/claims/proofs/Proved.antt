@@ -1,6 +1,6 @@
 -- The three demands and the requests, proved by citing: the table's theorem and those of a tape's lines, the functions' proofs, demand 3 from fresh and from
--- any beginning, the law of every feeding, the promises of the time-stamps, the latch and the leftover bits, the claim of the saved form, and the laws of a tape
--- that begins with a chip.
+-- any beginning, the law of every feeding, the promises of the time-stamps, the latch and the leftover bits, the claim of the saved form, the laws of a tape
+-- that begins with a chip, and those of the event inputs.
 -- Assumes nothing.
 use mathlib.Core.Path.{sym, _∙_}
 use borrow.Author.Tests.{ne-eqb}
@@ -18,6 +18,9 @@ use Rattle.answers.proofs.AnswerLaws.{seven-exactly, replies-shown, refused-set
 use Rattle.feeding.proofs.BeginLaws.{chip-answers, cut-in-two, tape-runs}
 use Rattle.feeding.proofs.FeedLaws.{any-feeding, any-resumed, resumed-accounted, cut-feeding, resumes-with}
 use Rattle.form.proofs.SavedLaws.{saved-right}
+use Rattle.events.proofs.BeginLaws.{event-claims}
+use Rattle.signals.proofs.ClaimLaws.{events-right}
+use Rattle.signals.proofs.BeforeLaws.{as-before}
 use Rattle.acts.proofs.perform.Met as perform
 use Rattle.run.proofs.run.Met as run
 use Rattle.run.proofs.run_from.Met as run-from
@@ -104,4 +107,7 @@ demands =
       saved = saved-right;
       resumed = resumed;
       calls = calls-right;
+      eventMoves = event-claims;
+      eventRuns = events-right;
+      asBefore = as-before;
     }

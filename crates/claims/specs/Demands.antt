@@ -26,6 +26,9 @@ use Rattle.feeding.specs.Begin.{ResumesWith, ChipAnswers, CutInTwo, TapeRuns}
 use Rattle.feeding.specs.Feeding.{AnyFeeding, AnyResumed, ResumedAccounted, CutFeeding}
 use Rattle.form.specs.Claim.{SavedRight}
 use Rattle.export.specs.Claim.{CallsRight}
+use Rattle.events.specs.Claims.{EventClaims}
+use Rattle.signals.specs.Claim.{EventsRight}
+use Rattle.signals.specs.Before.{AsBefore}
 use Rattle.acts.proofs.perform.Statement as perform
 use Rattle.run.proofs.run.Statement as run
 use Rattle.run.proofs.run_from.Statement as run-from
@@ -133,3 +136,8 @@ pub record Demands : Type 2 where
   pub resumed : Resumed
   -- a caller's arrays: each call is the act on the chip that they are, calls in a row are a run, and the ledger accounts for their memories
   pub calls : CallsRight
+  -- the event inputs: of lists of levels, ticks and writes when a flag is set; of every run which moves it is, and so when it sets a flag; and that a run without
+  -- a pin act whose writes of 0Bh set no flag is answered as before there were inputs
+  pub eventMoves : EventClaims
+  pub eventRuns : EventsRight
+  pub asBefore : AsBefore

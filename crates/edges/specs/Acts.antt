@@ -10,6 +10,9 @@ use Rattle.base.specs.Wait.{waitedBy}
 use Rattle.base.specs.Words.{every, members, storeUnder}
 use Rattle.calendar.specs.Field.{validField}
 use Rattle.calendar.specs.Date.{leapYear}
+use Rattle.events.specs.Control.{pullsIrq}
+use Rattle.events.specs.Tick.{eventsTick}
+use Rattle.events.specs.Range.{windowOut, debounceOut, eventsOut}
 use Rattle.record.specs.declared.Act.the-variants.{Select, Byte, End, Wait, Cut, Up}
 use Rattle.record.specs.declared.Reply.{Reply}
 use Rattle.record.specs.declared.Reply.the-variants.{Driven, Off}
@@ -28,9 +31,10 @@ use Rattle.refusals.specs.Range.{outOfRange, clockOut, frameOut, cycleOut, powe
 use Rattle.refusals.specs.Refusal.{refusalOf}
 use Rattle.registers.specs.Read.{readClock}
 use Rattle.registers.specs.Write.{writeClock, afterWrite}
-use Rattle.ticks.specs.Lines.{irqLow, wdoLow, changed}
+use Rattle.ticks.specs.Lines.{irqLow, wdoLow, flagsChanged, changed}
 use Rattle.ticks.specs.Oscillator.{oscillatorTick}
 use Rattle.ticks.specs.Watchdog.{watchdogTick}
+use Rattle.ticks.specs.Event.{eventTick}
 use Rattle.ticks.specs.Clock.{calendarTick}
 use Rattle.ticks.specs.Tick.{cycleDevice, cycleTick, clockwork, tick}
 use Rattle.replies.specs.Reply.{statusByte, nextReply, leftoverReply}
@@ -223,7 +227,7 @@ ActsShown = RegistersShown × FramesShown × PowerShown
 
 -- Each of them computes.
 pub acts-shown : ActsShown
-unfolding ActsShown RegistersShown FramesShown PowerShown validField after replies bytesAnswered afterBytes drivenAll leapYear worldAfter ourChip sent fresh performed refusalOf outOfRange clockOut frameOut cycleOut powerOut bitOutside every statusByte afterSelect afterByte nextReply leftoverReply readClock writeClock afterWrite afterEnd carried cycleAfter welAfter afterCut cutCount cutWorld afterUp stamped unstamped waitedBy tick cycleTick cycleDevice clockwork changed irqLow wdoLow oscillatorTick watchdogTick calendarTick storeUnder members
+unfolding ActsShown RegistersShown FramesShown PowerShown validField after replies bytesAnswered afterBytes drivenAll leapYear worldAfter ourChip sent fresh performed refusalOf outOfRange clockOut frameOut cycleOut powerOut eventsOut windowOut debounceOut bitOutside every statusByte afterSelect afterByte nextReply leftoverReply readClock writeClock afterWrite afterEnd carried cycleAfter welAfter afterCut cutCount cutWorld afterUp stamped unstamped waitedBy tick cycleTick cycleDevice clockwork changed flagsChanged irqLow pullsIrq wdoLow oscillatorTick watchdogTick eventTick eventsTick calendarTick storeUnder members
 acts-shown = (
   (refl, refl, refl, refl, refl, refl, refl, refl, refl, refl, refl, refl, refl, refl, refl),
   (refl, refl, refl, refl, refl, refl, refl, refl, refl, refl, refl, refl, refl, refl, refl, refl, refl, refl, refl, refl, refl, refl, refl, refl, refl, refl, refl, refl, refl, refl, refl, refl, refl, refl, refl, refl, refl, refl, refl, refl, refl, refl, refl),

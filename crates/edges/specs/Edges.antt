@@ -12,6 +12,9 @@ use Rattle.calendar.specs.Clock.{nextSeconds}
 use Rattle.calendar.specs.Hours.{nextHours}
 use Rattle.calendar.specs.Date.{leapYear, monthLength, nextDate}
 use Rattle.calendar.specs.Time.{dateOf, withDate, onDay, advanced}
+use Rattle.events.specs.Control.{pullsIrq}
+use Rattle.events.specs.Tick.{eventsTick}
+use Rattle.events.specs.Range.{windowOut, debounceOut, eventsOut}
 use Rattle.record.specs.declared.Act.the-variants.{Wait}
 use Rattle.record.specs.declared.Reply.the-variants.{Driven}
 use Rattle.record.specs.Fresh.{fresh}
@@ -20,10 +23,11 @@ use Rattle.refusals.specs.Range.{outOfRange, clockOut, frameOut, cycleOut, powe
 use Rattle.refusals.specs.Refusal.{refusalOf}
 use Rattle.registers.specs.Read.{readClock}
 use Rattle.registers.specs.Write.{writeClock, afterWrite}
-use Rattle.ticks.specs.Lines.{irqLow, wdoLow, changed}
+use Rattle.ticks.specs.Lines.{irqLow, wdoLow, flagsChanged, changed}
 use Rattle.ticks.specs.Alarm.{matchesAt, alarmMatch, alarmed}
 use Rattle.ticks.specs.Oscillator.{oscillatorTick}
 use Rattle.ticks.specs.Watchdog.{watchdogTick}
+use Rattle.ticks.specs.Event.{eventTick}
 use Rattle.ticks.specs.Clock.{withTime, calendarTick}
 use Rattle.ticks.specs.Tick.{cycleDevice, cycleTick, clockwork, tick}
 use Rattle.replies.specs.Reply.{nextReply}
@@ -85,5 +89,5 @@ Edges =
 
 -- Each edge computes.
 pub edges : Edges
-unfolding Edges after replies bytesAnswered afterBytes validField nextField nextHours advanced onDay withDate dateOf nextDate monthLength leapYear worldAfter ourChip sent fresh performed refusalOf outOfRange clockOut frameOut cycleOut powerOut bitOutside every afterSelect afterByte nextReply readClock writeClock afterWrite afterEnd carried cycleAfter welAfter waitedBy tick cycleTick cycleDevice clockwork changed irqLow wdoLow oscillatorTick watchdogTick calendarTick withTime alarmed alarmMatch matchesAt storeUnder
+unfolding Edges after replies bytesAnswered afterBytes validField nextField nextHours advanced onDay withDate dateOf nextDate monthLength leapYear worldAfter ourChip sent fresh performed refusalOf outOfRange clockOut frameOut cycleOut powerOut eventsOut windowOut debounceOut bitOutside every afterSelect afterByte nextReply readClock writeClock afterWrite afterEnd carried cycleAfter welAfter waitedBy tick cycleTick cycleDevice clockwork changed flagsChanged irqLow pullsIrq wdoLow oscillatorTick watchdogTick eventTick eventsTick calendarTick withTime alarmed alarmMatch matchesAt storeUnder
 edges = (refl, refl, refl, refl, refl, refl, refl, (refl, refl, refl, refl, refl, refl, refl), refl, refl, refl, (refl, refl, refl, refl, refl, refl))

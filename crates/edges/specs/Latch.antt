@@ -8,6 +8,9 @@ use mathlib.Core.List.{List, [], _∷_}
 use lib.ListN.{set}
 use Rattle.base.specs.Wait.{waitedBy}
 use Rattle.base.specs.Words.{every, members, storeUnder}
+use Rattle.events.specs.Control.{pullsIrq}
+use Rattle.events.specs.Tick.{eventsTick}
+use Rattle.events.specs.Range.{windowOut, debounceOut, eventsOut}
 use Rattle.record.specs.declared.Act.{Act}
 use Rattle.record.specs.declared.Act.the-variants.{Select, End, Wait, Cut, Up}
 use Rattle.record.specs.declared.Lock.the-variants.{Closed, Open}
@@ -25,9 +28,10 @@ use Rattle.refusals.specs.Range.{outOfRange, clockOut, frameOut, cycleOut, powe
 use Rattle.refusals.specs.Refusal.{refusalOf}
 use Rattle.registers.specs.Read.{readClock}
 use Rattle.registers.specs.Write.{writeClock, afterWrite}
-use Rattle.ticks.specs.Lines.{irqLow, wdoLow, changed}
+use Rattle.ticks.specs.Lines.{irqLow, wdoLow, flagsChanged, changed}
 use Rattle.ticks.specs.Oscillator.{oscillatorTick}
 use Rattle.ticks.specs.Watchdog.{watchdogTick}
+use Rattle.ticks.specs.Event.{eventTick}
 use Rattle.ticks.specs.Clock.{calendarTick}
 use Rattle.ticks.specs.Tick.{cycleDevice, cycleTick, clockwork, tick}
 use Rattle.replies.specs.Reply.{statusByte, nextReply}
@@ -138,5 +142,5 @@ LatchShown =
 
 -- Each of them computes.
 pub latch-shown : LatchShown
-unfolding LatchShown after replies bytesAnswered afterBytes worldAfter ourChip sent fresh performed refusalOf outOfRange clockOut frameOut cycleOut powerOut bitOutside every statusByte afterSelect afterByte nextReply readClock writeClock afterWrite afterEnd carried cycleAfter welAfter afterCut cutCount cutWorld afterUp stamped unstamped waitedBy tick cycleTick cycleDevice clockwork changed irqLow wdoLow oscillatorTick watchdogTick calendarTick storeUnder members
+unfolding LatchShown after replies bytesAnswered afterBytes worldAfter ourChip sent fresh performed refusalOf outOfRange clockOut frameOut cycleOut powerOut eventsOut windowOut debounceOut bitOutside every statusByte afterSelect afterByte nextReply readClock writeClock afterWrite afterEnd carried cycleAfter welAfter afterCut cutCount cutWorld afterUp stamped unstamped waitedBy tick cycleTick cycleDevice clockwork changed flagsChanged irqLow pullsIrq wdoLow oscillatorTick watchdogTick eventTick eventsTick calendarTick storeUnder members
 latch-shown = search depth 1

@@ -8,6 +8,7 @@ use lib.ListN.{set, replicate}
 use Rattle.base.specs.Words.{every}
 use Rattle.calendar.specs.Date.{leapYear}
 use Rattle.calendar.specs.Field.{validField}
+use Rattle.events.specs.Range.{windowOut, debounceOut, eventsOut}
 use Rattle.record.specs.declared.Act.the-variants.{End, Cut}
 use Rattle.record.specs.declared.Device.{Device}
 use Rattle.record.specs.declared.Protection.the-variants.{All}
@@ -134,6 +135,6 @@ LeftoverShown =
 
 -- Each of them computes.
 pub leftover-shown : LeftoverShown
-unfolding LeftoverShown validField leapYear afterBytes fresh performed refusalOf outOfRange clockOut frameOut cycleOut powerOut bitOutside every statusByte afterSelect afterByte nextReply leftoverReply readClock writeClock afterWrite afterEnd carried cycleAfter welAfter afterCut cutCount cutWorld stamped unstamped
+unfolding LeftoverShown validField leapYear afterBytes fresh performed refusalOf outOfRange clockOut frameOut cycleOut powerOut eventsOut windowOut debounceOut bitOutside every statusByte afterSelect afterByte nextReply leftoverReply readClock writeClock afterWrite afterEnd carried cycleAfter welAfter afterCut cutCount cutWorld stamped unstamped
 leftover-shown =
     (refl, refl, refl, refl, refl, refl, refl, refl, refl, refl, refl, refl, refl, refl, refl, refl, refl, refl, refl, refl, refl, refl, refl, refl, refl, refl, refl, refl, refl, refl, refl, refl, refl, refl, refl, refl, refl, refl, refl, refl, refl, refl, refl, refl, refl, refl, refl)

@@ -11,6 +11,9 @@ use Rattle.calendar.specs.Field.{validField, nextField}
 use Rattle.calendar.specs.Hours.{nextHours}
 use Rattle.calendar.specs.Date.{leapYear, monthLength, dateLast, nextDate}
 use Rattle.calendar.specs.Time.{dateOf, withDate, onDay, advanced}
+use Rattle.events.specs.Control.{pullsIrq}
+use Rattle.events.specs.Tick.{eventsTick}
+use Rattle.events.specs.Range.{windowOut, debounceOut, eventsOut}
 use Rattle.record.specs.declared.Act.the-variants.{Wait}
 use Rattle.record.specs.declared.Device.{Device}
 use Rattle.record.specs.Scene.{chip, started}
@@ -19,10 +22,11 @@ use Rattle.record.specs.declared.Target.the-variants.{Eeprom}
 use Rattle.refusals.specs.Range.{outOfRange, clockOut, frameOut, cycleOut, powerOut, bitOutside}
 use Rattle.refusals.specs.Refusal.{refusalOf}
 use Rattle.registers.specs.Write.{writeClock, afterWrite}
-use Rattle.ticks.specs.Lines.{irqLow, wdoLow, changed}
+use Rattle.ticks.specs.Lines.{irqLow, wdoLow, flagsChanged, changed}
 use Rattle.ticks.specs.Alarm.{matchesAt, alarmMatch, alarmed}
 use Rattle.ticks.specs.Oscillator.{oscillatorTick}
 use Rattle.ticks.specs.Watchdog.{watchdogTick}
+use Rattle.ticks.specs.Event.{eventTick}
 use Rattle.ticks.specs.Clock.{withTime, calendarTick}
 use Rattle.ticks.specs.Tick.{cycleDevice, cycleTick, clockwork, tick}
 use Rattle.replies.specs.Reply.{nextReply}
@@ -256,7 +260,7 @@ WaitsShown = WatchdogShown × OscillatorShown × Alarm0Shown × Alarm1Shown × L
 
 -- Each of them computes.
 pub waits-shown : WaitsShown
-unfolding WaitsShown WatchdogShown OscillatorShown Alarm0Shown Alarm1Shown LinesShown after validField nextField nextHours advanced onDay withDate dateOf nextDate monthLength leapYear worldAfter ourChip sent performed refusalOf outOfRange clockOut frameOut cycleOut powerOut bitOutside every afterSelect afterByte nextReply writeClock afterWrite afterEnd carried cycleAfter welAfter waitedBy tick cycleTick cycleDevice clockwork changed irqLow wdoLow oscillatorTick watchdogTick calendarTick withTime alarmed alarmMatch matchesAt storeUnder
+unfolding WaitsShown WatchdogShown OscillatorShown Alarm0Shown Alarm1Shown LinesShown after validField nextField nextHours advanced onDay withDate dateOf nextDate monthLength leapYear worldAfter ourChip sent performed refusalOf outOfRange clockOut frameOut cycleOut powerOut eventsOut windowOut debounceOut bitOutside every afterSelect afterByte nextReply writeClock afterWrite afterEnd carried cycleAfter welAfter waitedBy tick cycleTick cycleDevice clockwork changed flagsChanged irqLow pullsIrq wdoLow oscillatorTick watchdogTick eventTick eventsTick calendarTick withTime alarmed alarmMatch matchesAt storeUnder
 waits-shown = (
   ((refl, refl), (refl, refl), (refl, refl), (refl, refl), (refl, refl), (refl, refl), (refl, refl), (refl, refl), (refl, refl), refl, refl, refl, refl, refl, refl, refl, refl, refl, refl, refl, refl, refl, refl, refl, refl),
   (refl, refl, refl, refl, refl, refl, refl, refl, refl, refl, refl, refl, refl, refl, refl),

@@ -10,21 +10,22 @@ use borrow.Author.Tests.{eq-eqb, ne-eqb, lt-ltb, le-ltb, eqb-true, ltb-true, ltb
 use lib.Dec.{eqb, ltb}
 use lib.ListN.{length, getD, replicate}
 use Rattle.base.specs.Words.{pick}
-use Rattle.base.proofs.Tests.{by-cases, yes, no, pick-when, neither}
+use Rattle.base.proofs.Tests.{by-cases, yes, no, pick-when, both-right, neither}
 use Rattle.record.specs.declared.Act.{Act}
-use Rattle.record.specs.declared.Act.the-variants.{Select, Byte, End, Wait, Cut, Up}
+use Rattle.record.specs.declared.Act.the-variants.{Select, Byte, End, Wait, Cut, Up, Set}
 use Rattle.record.specs.declared.Device.{Device}
+use Rattle.record.specs.declared.Pin.the-variants.{Evls, Evhs}
 use Rattle.record.specs.declared.Reply.the-variants.{Off}
 use Rattle.record.specs.Fresh.{fresh}
-use Rattle.record.specs.Numbers.{actOf, actNumber}
+use Rattle.record.specs.Numbers.{actCount, actOf, actNumber}
 use Rattle.record.specs.Part.{isPart, sizeOf, idSize}
 use Rattle.record.specs.World.{World, world, Bytes, freshWorld}
 use Rattle.record.proofs.NumberLaws.{act-back}
 use Rattle.refusals.specs.InRange.{InRange}
 use Rattle.refusals.specs.Refusal.{wrongLength, firstRefusal}
 use Rattle.form.specs.Table.{partIn}
-use Rattle.form.specs.Chip.{deviceOf, Sound, SoundRecord}
-use Rattle.form.specs.State.{arrayNumbers, isState, stateOf}
+use Rattle.form.specs.Chip.{isRecord, deviceOf, Sound, SoundRecord}
+use Rattle.form.specs.State.{arrayNumbers, stateBytes, isState, stateOf}
 use Rattle.form.proofs.ChipLaws.{sound-record, recorded-sound}
 use Rattle.form.proofs.StateLaws.{array-again, state-good, device-told, carried-in}
 use Rattle.acts.specs.Act.{Outcome, refusalIn, accepted, performed}
@@ -46,13 +47,15 @@ passes part ee ids there p q r t = (λ i. firstRefusal (not (p i)) (fits i) (not
     fits : wrongLength part ee ids ≡ false
     fits = neither (ap not (eq-eqb ee (sizeOf part) q)) (ap not (eq-eqb ids idSize r))
 
-act-below : (a : Act) → actNumber a < 6
+act-below : (a : Act) → actNumber a < actCount
 act-below Select = omega arith
 act-below Byte = omega arith
 act-below End = omega arith
 act-below Wait = omega arith
 act-below Cut = omega arith
 act-below Up = omega arith
+act-below (Set Evls) = omega arith
+act-below (Set Evhs) = omega arith
 
 -- The arrays of a chip in range.
 module _ (part : ℕ) (w : World) (s : Sound part w) where
@@ -75,22 +78,22 @@ module _ (part : ℕ) (w : World) (s : Sound part w) where
   pub chip-in : worldIn its ≡ w
   chip-in i = world (device-told part (w .device) sr i) (w .eeprom) (w .id)
 
-  judged : (m n : ℕ) → pick (ltb m 6) (told (partOf (its .state)) (performed (partOf (its .state)) (actOf m) n (worldIn its))) (noAct its) ≡ acts its m n
+  judged : (m n : ℕ) → pick (ltb m actCount) (told (partOf (its .state)) (performed (partOf (its .state)) (actOf m) n (worldIn its))) (noAct its) ≡ acts its m n
   unfolding acts
   judged m n =
-      yes (pick (ltb m 6) (told (partOf (its .state)) (performed (partOf (its .state)) (actOf m) n (worldIn its))) (noAct its))
+      yes (pick (ltb m actCount) (told (partOf (its .state)) (performed (partOf (its .state)) (actOf m) n (worldIn its))) (noAct its))
       (called (stateRefusal its) (noChip (stateRefusal its)) its) (eq-eqb (stateRefusal its) 0 let-through)
 
   pub acted : (a : Act) (n : ℕ) → acts its (actNumber a) n ≡ told part (performed part a n w)
   acted a n =
       sym (judged (actNumber a) n)
-      ∙ sym (yes (told (partOf (its .state)) (performed (partOf (its .state)) (actOf (actNumber a)) n (worldIn its))) (noAct its) (lt-ltb (actNumber a) 6 (act-below a)))
+      ∙ sym (yes (told (partOf (its .state)) (performed (partOf (its .state)) (actOf (actNumber a)) n (worldIn its))) (noAct its) (lt-ltb (actNumber a) actCount (act-below a)))
       ∙ (λ i. told (part-first i) (performed (part-first i) (act-back a i) n (chip-in i)))
 
-  pub unnamed : (m n : ℕ) → 5 < m → acts its m n ≡ called 3 (answerOf 3 Off 0 (w .device)) its
+  pub unnamed : (m n : ℕ) → 7 < m → acts its m n ≡ called 3 (answerOf 3 Off 0 (w .device)) its
   unnamed m n h =
       sym (judged m n)
-      ∙ sym (no (told (partOf (its .state)) (performed (partOf (its .state)) (actOf m) n (worldIn its))) (noAct its) (le-ltb m 6 (omega (arith, h))))
+      ∙ sym (no (told (partOf (its .state)) (performed (partOf (its .state)) (actOf m) n (worldIn its))) (noAct its) (le-ltb m actCount (omega (arith, h))))
       ∙ (λ i. called 3 (answerOf 3 Off 0 (chip-in i .device)) its)
 
   -- after an act the chip is in range again, where its array is one of bytes
@@ -115,7 +118,7 @@ module _ (a : Arrays) (b : Bytes (a .state)) (z : stateRefusal a ≡ 0) where
   there : isState (a .state) ≡ true
   there = state-there (a .state) size ids 0 (sym zero-by) refl
 
-  long : length (a .state) ≡ 133
+  long : length (a .state) ≡ 142
   long = state-long (a .state) size ids 0 (sym zero-by) refl
 
   part-same : partOf (a .state) ≡ partIn (arrayNumbers (a .state))
@@ -129,7 +132,7 @@ module _ (a : Arrays) (b : Bytes (a .state)) (z : stateRefusal a ≡ 0) where
   pub sound-in : ByteArrays a → Sound (partOf (a .state)) (worldIn a)
   unfolding isState
   sound-in bytes =
-      let r = recorded-sound (arrayNumbers (a .state)) there in
+      let r = recorded-sound (arrayNumbers (a .state)) (both-right (eqb (length (a .state)) stateBytes) (isRecord (arrayNumbers (a .state))) there) in
       let p = partOf (a .state) in
       record {
         named = named p size ids 0 (isState (a .state)) (sym zero-by) refl;
@@ -168,13 +171,14 @@ module _ (a : Arrays) (b : Bytes (a .state)) (m n : ℕ) where
       accepted-done Wait = refl
       accepted-done Cut = refl
       accepted-done Up = refl
+      accepted-done (Set p) = refl
 
   pub kept : Keeps (acts a m n)
   unfolding acts
   kept =
       pick-when Keeps (eqb (stateRefusal a) 0)
       (λ t.
-      pick-when Keeps (ltb m 6) {a = told p (performed p (actOf m) n (worldIn a))} {b = noAct a}
+      pick-when Keeps (ltb m actCount) {a = told p (performed p (actOf m) n (worldIn a))} {b = noAct a}
       (λ u. told-keeps (actOf m) (eqb-true (stateRefusal a) 0 t)) (λ u v. refl))
       (λ t v. refl)
 
@@ -197,17 +201,17 @@ row-on part w s (x ∷ xs) b =
     first-bytes a [] c = c .state
     first-bytes a (y ∷ ys) c = c .0 .state
 
-made : (part : ℕ) (a : Arrays) → isPart part ≡ true → length (a .state) ≡ 133 → length (a .eeprom) ≡ sizeOf part → length (a .id) ≡ idSize → newly part a ≡ called 0 [] (arraysOf part (freshWorld part))
+made : (part : ℕ) (a : Arrays) → isPart part ≡ true → length (a .state) ≡ 142 → length (a .eeprom) ≡ sizeOf part → length (a .id) ≡ idSize → newly part a ≡ called 0 [] (arraysOf part (freshWorld part))
 unfolding newly
 made part a p l e i =
-    let z : newRefusal part a ≡ 0 = passes part (length (a .eeprom)) (length (a .id)) (eqb (length (a .state)) 133) p e i (eq-eqb (length (a .state)) 133 l) in
+    let z : newRefusal part a ≡ 0 = passes part (length (a .eeprom)) (length (a .id)) (eqb (length (a .state)) 142) p e i (eq-eqb (length (a .state)) 142 l) in
     sym (yes (called 0 [] (freshIn part a)) (called (newRefusal part a) [] a) (eq-eqb (newRefusal part a) 0 z))
     ∙ (λ k. called 0 [] (arraysOf part (world fresh (replicate (e k) 255) (replicate (i k) 255))))
 
 refused : (a : Arrays) → stateRefusal a ≢ 0 → (m n : ℕ) → acts a m n ≡ called (stateRefusal a) (noChip (stateRefusal a)) a
 unfolding acts
 refused a h m n =
-    sym (no (pick (ltb m 6) (told (partOf (a .state)) (performed (partOf (a .state)) (actOf m) n (worldIn a))) (noAct a)) (called (stateRefusal a) (noChip (stateRefusal a)) a) (ne-eqb (stateRefusal a) 0 h))
+    sym (no (pick (ltb m actCount) (told (partOf (a .state)) (performed (partOf (a .state)) (actOf m) n (worldIn a))) (noAct a)) (called (stateRefusal a) (noChip (stateRefusal a)) a) (ne-eqb (stateRefusal a) 0 h))
 
 memory-in : (m : Memory) (part : ℕ) (w : World) (q : ℕ) → getD (memoryOf m (worldIn (arraysOf part w))) q 0 ≡ getD (memoryOf m w) q 0
 memory-in eeprom part w q = refl

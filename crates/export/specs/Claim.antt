@@ -46,14 +46,14 @@ BytesAll a (x ∷ xs) = ByteArrays a × BytesAll (acts a (actNumber (x .act)) (x
 pub record CallsRight : Type 0 where
   -- a part and arrays of the right lengths become a fresh chip's
   pub made :
-      (part : ℕ) (a : Arrays) → isPart part ≡ true → length (a .state) ≡ 133 → length (a .eeprom) ≡ sizeOf part → length (a .id) ≡ idSize
+      (part : ℕ) (a : Arrays) → isPart part ≡ true → length (a .state) ≡ 142 → length (a .eeprom) ≡ sizeOf part → length (a .id) ≡ idSize
       → newly part a ≡ called 0 [] (arraysOf part (freshWorld part))
   -- an act on the arrays of a chip in range is the act on that chip, and leaves the arrays of the chip after it
   pub acted :
       (part : ℕ) (w : World) → Sound part w → (act : Act) (n : ℕ) → acts (arraysOf part w) (actNumber act) n ≡ told part (performed part act n w)
   -- a number that names no act is refused by 3, with the levels of the chip
   pub unnamed :
-      (part : ℕ) (w : World) → Sound part w → (m n : ℕ) → 5 < m
+      (part : ℕ) (w : World) → Sound part w → (m n : ℕ) → 7 < m
       → acts (arraysOf part w) m n ≡ called 3 (answerOf 3 Off 0 (w .device)) (arraysOf part w)
   -- arrays are let through exactly if they are those of a chip in range
   pub exactly : (a : Arrays) → ByteArrays a → (stateRefusal a ≡ 0) ↔ Held a

@@ -3,19 +3,19 @@
 -- Assumes nothing.
 use mathlib.Core.Path.{_≡_, refl, sym, ap, subst, _∙_}
 use mathlib.Core.Bool.{true, false, true≢false}
-use mathlib.Core.List.{List, [], _∷_, _++_}
+use mathlib.Core.List.{List, [], _∷_, _++_, append-nil}
 use Prim.Native.Nat.{ℕ}
 use lib.Dec.{eqb}
 use Rattle.base.proofs.Tests.{by-cases, yes, no, pick-when}
 use Rattle.record.specs.declared.Act.{Act}
-use Rattle.record.specs.declared.Act.the-variants.{Select, Byte, End, Wait, Cut, Up}
+use Rattle.record.specs.declared.Act.the-variants.{Select, Byte, End, Wait, Cut, Up, Set}
 use Rattle.record.specs.Part.{isPart}
 use Rattle.record.proofs.PartLaws.{part-cases}
 use Rattle.record.specs.World.{World}
 use Rattle.acts.specs.Act.{Outcome, performed}
 use Rattle.acts.proofs.OutcomeLaws.{refused-same}
 use Rattle.ledger.specs.State.{Step}
-use Rattle.run.specs.Claim.{Input, ourChip, worldAfter, stepsOf, named, usedBy, DemandThree}
+use Rattle.run.specs.Claim.{Input, ourChip, worldAfter, stepsOf, told, usedBy, DemandThree}
 use Rattle.run.proofs.DemandThree.{demand-three}
 use Rattle.run.proofs.RunLaws.{after-append, steps-append}
 use Rattle.lines.specs.declared.Request.{Request}
@@ -58,6 +58,7 @@ printed part End arg w = refl
 printed part Wait arg w = wait-ticks (performed part Wait arg w) (λ e. ap (λ (o : Outcome). o .count) (refused-same part Wait arg w e))
 printed part Cut arg w = refl
 printed part Up arg w = refl
+printed part (Set p) arg w = refl
 
 -- with a part, a line's answer leaves and tells the ledger what its act does
 module _ (part : ℕ) (some : eqb part 0 ≡ false) where
@@ -73,10 +74,10 @@ module _ (part : ℕ) (some : eqb part 0 ≡ false) where
   line-steps (PartLine arg) w = refl
   line-steps (ActLine act arg) w =
       let a = outcomeAnswer part act (performed part act arg w) in
-      let step : ℕ → List Step = λ u. record { act = named act; arg = arg; used = u } ∷ [] in
       ap (λ (x : LineAnswer). lineTold (ActLine act arg) (charsOf x)) (sym (no (refusedLine 7 (setup part w)) a some))
-      ∙ ap (λ (o : Out). step (usedBy act (shownOr 0 o))) (chars-out a)
-      ∙ ap step (printed part act arg w)
+      ∙ ap (λ (o : Out). told act arg (usedBy act (shownOr 0 o))) (chars-out a)
+      ∙ ap (told act arg) (printed part act arg w)
+      ∙ sym (append-nil (told act arg (usedBy act (performed part act arg w .count))))
   line-steps Bad w = refl
 
   -- and so do lines

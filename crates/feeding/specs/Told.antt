@@ -8,7 +8,7 @@ use mathlib.Core.List.{List, [], _∷_, _++_}
 use lib.Dec.{leb}
 use Rattle.base.specs.Words.{pick}
 use Rattle.ledger.specs.State.{Step}
-use Rattle.run.specs.Claim.{named, usedBy}
+use Rattle.run.specs.Claim.{told, usedBy}
 use Rattle.lines.specs.declared.Request.{Request}
 use Rattle.lines.specs.declared.Request.the-variants.{PartLine, ActLine, Bad}
 use Rattle.lines.specs.Request.{requestOf}
@@ -22,11 +22,11 @@ pub record Told : Type 0 where
 abbrev pub tells : ℕ → List Step → Told
 tells part steps = record { part = part; steps = steps }
 
--- L1. With a part, a line that names an act is a step: the act, its argument, and of the answer a wait's ticks, 0 where z is shown. Other
--- lines tell nothing.
+-- L1. With a part, a line that names an act tells what its act does: the act, its argument, and of the answer a wait's ticks, 0 where z is shown. A pin's line and
+-- other lines tell nothing.
 abbrev pub lineTold : Request → List ℕ → List Step
 lineTold (PartLine arg) answer = []
-lineTold (ActLine act arg) answer = record { act = named act; arg = arg; used = usedBy act (shownOr 0 (outRead answer)) } ∷ []
+lineTold (ActLine act arg) answer = told act arg (usedBy act (shownOr 0 (outRead answer)))
 lineTold Bad answer = []
 
 unfoldable pub stepsTold : List (List ℕ) → List (List ℕ) → List Step

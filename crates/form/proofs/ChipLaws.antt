@@ -2,18 +2,19 @@
 -- Assumes nothing.
 use mathlib.Core.Path.{_≡_, refl, sym, ap, subst, _∙_}
 use mathlib.Core.Bool.{Bool, true, false, not, _&&_, _||_}
-use mathlib.Core.List.{List, [], _∷_, _++_, append-nil}
+use mathlib.Core.List.{List, [], _∷_, _++_, append-assoc}
 use Prim.Native.Nat.{ℕ, zero, suc, _+_, _-_, _<_, _≤_}
-use native.Mathlib.Nat.{le-of-eq}
+use native.Mathlib.Nat.{add-zero}
 use native.Mathlib.Omega.{arith}
 use borrow.Author.Tests.{ltb-true, ltb-false, leb-true, ne-eqb}
 use lib.Dec.{ltb, leb, eqb}
 use lib.Bits.{bitAnd, and-le-r}
 use lib.ListN.{length, take, drop, getD, length-append, length-drop, List·getD-append, List·getD-eq-default, take-append-drop}
-use lib.Seq.{getD-take, getD-drop, drop-drop, drop-at, take-at, take-all, drop-cons, drop-length, length-take-le}
-use Rattle.base.specs.Words.{pick, flag, bit, every}
-use Rattle.base.proofs.Tests.{by-cases, no, neither, neither-left, neither-right, true-false, flag-below}
+use lib.Seq.{getD-take, getD-drop, drop-drop, drop-at, take-at, drop-cons, length-take-le}
+use Rattle.base.specs.Words.{flag, bit, every}
+use Rattle.base.proofs.Tests.{by-cases, neither, neither-left, neither-right, true-false, flag-below}
 use Rattle.base.proofs.Every.{same-below, bound-below}
+use Rattle.events.specs.Rows.{EventsIn}
 use Rattle.record.specs.declared.Cycle.{Cycle}
 use Rattle.record.specs.declared.Device.{Device}
 use Rattle.record.specs.declared.Lock.{Lock}
@@ -21,16 +22,17 @@ use Rattle.record.specs.declared.Lock.the-variants.{Closed, First, Open}
 use Rattle.record.specs.declared.Stage.{Stage}
 use Rattle.record.specs.Numbers.{protectionOf, lockNumber, lockOf, stageKind, stageOf, targetOf}
 use Rattle.record.specs.Part.{isPart, sizeOf, idSize, bootsOf}
-use Rattle.record.specs.Registers.{st, secondsAt, kept, periodOf, cycleTicks, startupTicks}
+use Rattle.record.specs.Registers.{st, secondsAt, eventAt, kept, periodOf, cycleTicks, startupTicks}
 use Rattle.record.specs.Stages.{selected, foreignToWip}
 use Rattle.record.specs.World.{World, world, Bytes}
 use Rattle.record.proofs.NumberLaws.{protection-back, protection-below, lock-back, stage-back, target-back}
 use Rattle.record.proofs.PartLaws.{size-most}
 use Rattle.refusals.specs.InRange.{ClockRange, PowerRange}
-use Rattle.form.specs.Table.{partIn, registerIn, powerIn, stageIn, startupBy, startupLimit, watchdogBy, markBy, kindBy, caseGood, valueLimit, targetLimit, leftBy, leftLimit}
-use Rattle.form.specs.Chip.{headNumbers, tailNumbers, numbersBefore, numbersOf, stateNumbers, isRecord, deviceOf, worldOf, IsChip, Sound, SoundRecord}
-use Rattle.form.specs.Facts.{RecordFacts, Facts, BytesFrom}
+use Rattle.form.specs.Table.{partIn, registerIn, powerIn, stageIn, startupBy, startupLimit, watchdogBy, markBy, kindBy, caseGood, valueLimit, targetLimit, leftBy, leftLimit, edgesBy, sinceBy, debounceBy, chipEvents}
+use Rattle.form.specs.Chip.{headNumbers, tailNumbers, numbersBefore, eventNumbers, numbersOf, stateNumbers, isRecord, eventsOf, deviceFrom, deviceOf, worldOf, IsChip, Sound, SoundRecord}
+use Rattle.form.specs.Facts.{RecordFacts, EventFacts, Facts, BytesFrom}
 use Rattle.form.proofs.FactLaws.{facts-good, good-facts, facts-recorded, recorded-facts}
+use Rattle.form.proofs.EventLaws.{open-limit, limit-open, edges-within, since-within, debounce-within, events-from}
 use Rattle.form.proofs.StageLaws.{kind-below, idle-kind, kind-idle, case-good, value-below, StageFrom, stage-from, target-kind-below, target-below, TargetFrom, protection-of, target-from}
 
 -- numbers that stand for a test, and for the lock
@@ -61,15 +63,6 @@ register-byte k v h e = omega (arith, e, and-le-r v (getD kept k 0), kept-byte k
 
 size-some : (part : ℕ) → 0 < sizeOf part
 size-some part = omega arith
-
--- A limit that depends on a test: what it says of a number, both ways.
-open-limit : (t : Bool) (n m : ℕ) → n < suc m → (t ≡ false → n ≡ 0) → n < pick t (suc m) 1
-open-limit true n m h z = h
-open-limit false n m h z = omega (arith, z refl)
-
-limit-open : (t : Bool) (n m : ℕ) → n < pick t (suc m) 1 → (n ≤ m) × (t ≡ false → n ≡ 0)
-limit-open true n m h = (omega (arith, h), λ e. absurd (true-false refl e))
-limit-open false n m h = (omega (arith, h), λ e. omega (arith, h))
 
 -- a number below a limit, both told in another way
 low : {a b m k : ℕ} → a ≡ b → m ≡ k → b < k → a < m
@@ -162,8 +155,34 @@ module _ (part : ℕ) (d : Device) (rest : List ℕ) (s : SoundRecord part d) wh
   load-told : take 8 (drop 111 ns) ≡ d .load .bytes
   load-told = ap (take 8) from-111 ∙ take-at (d .load .bytes) fromTail 8 (s .sized .bytes)
 
-  pub device-told : deviceOf ns ≡ d
-  device-told i =
+  -- the event inputs, where they end the list
+  module _ (k : ℕ) (end : drop k ns ≡ eventNumbers (d .events)) where
+    door-at : getD ns k 0 ≡ d .events .door
+    door-at = ap (λ (m : ℕ). getD ns m 0) (sym (add-zero k)) ∙ at k end 0
+
+    control-at : registerIn ns eventAt ≡ getD (d .regs) eventAt 0
+    control-at = at-register 11 (ltb-true 11 32 refl)
+
+    events-told : eventsOf k ns ≡ d .events
+    events-told i = record { door = door-at i; drum = at k end 1 i; edges = at k end 2 i; since = at k end 3 i; debounce = at k end 4 i }
+
+    pub event-facts : EventFacts k ns
+    event-facts =
+        let v = getD (d .regs) eventAt 0 in
+        let r = s .range .clock .events in
+        record {
+          door = low door-at refl (one-more (r .door));
+          drum = low (at k end 1) refl (one-more (r .drum));
+          edges = low (at k end 2) (ap edgesBy control-at) (edges-within v (d .events) r);
+          since = low (at k end 3) (ap sinceBy (at k end 2)) (since-within v (d .events) r);
+          debounce = low (at k end 4) (λ i. debounceBy (control-at i) (door-at i)) (debounce-within v (d .events) r);
+        }
+      where
+        one-more : {n : ℕ} → n ≤ 1 → n < 2
+        one-more h = omega (arith, h)
+
+  pub device-told : (k : ℕ) → drop k ns ≡ eventNumbers (d .events) → deviceFrom k ns ≡ d
+  device-told k end i =
       record {
         regs = regs-told i;
         sram = sram-told i;
@@ -179,6 +198,7 @@ module _ (part : ℕ) (d : Device) (rest : List ℕ) (s : SoundRecord part d) wh
         frame = record { stage = stage-told i };
         load = record { offsets = head-at 13 i; bytes = load-told i; next = tail-at 0 i };
         cycle = record { target = target-told i; left = tail-at 3 i };
+        events = events-told k end i;
       }
 
   -- its length
@@ -250,8 +270,11 @@ module _ (part : ℕ) (w : World) (s : Sound part w) where
   abbrev whole : List ℕ
   whole = numbersOf part w
 
+  abbrev events : List ℕ
+  events = eventNumbers (w .device .events)
+
   abbrev memories : List ℕ
-  memories = w .eeprom ++ w .id
+  memories = w .eeprom ++ (w .id ++ events)
 
   pub sound-record : SoundRecord part (w .device)
   sound-record = record { named = s .named; range = s .range; sized = s .shaped .sized; carried = s .carried }
@@ -264,40 +287,81 @@ module _ (part : ℕ) (w : World) (s : Sound part w) where
   unfolding numbersOf
   from-eeprom = from-123 part (w .device) memories sound-record
 
-  from-id : drop (123 + sizeOf part) whole ≡ w .id
-  from-id = sym (drop-drop (sizeOf part) 123 whole) ∙ ap (drop (sizeOf part)) from-eeprom ∙ drop-at (w .eeprom) (w .id) (sizeOf part) (s .shaped .eeprom)
+  from-id : drop (123 + sizeOf part) whole ≡ w .id ++ events
+  from-id =
+      sym (drop-drop (sizeOf part) 123 whole) ∙ ap (drop (sizeOf part)) from-eeprom ∙ drop-at (w .eeprom) (w .id ++ events) (sizeOf part) (s .shaped .eeprom)
+
+  from-events : drop (123 + sizeOf part + idSize) whole ≡ events
+  from-events = sym (drop-drop 16 (123 + sizeOf part) whole) ∙ ap (drop 16) from-id ∙ drop-at (w .id) events 16 (s .shaped .id)
 
   eeprom-told : take (sizeOf (partIn whole)) (drop 123 whole) ≡ w .eeprom
   eeprom-told =
       ap (λ (p : ℕ). take (sizeOf p) (drop 123 whole)) part-back
       ∙ ap (take (sizeOf part)) from-eeprom
-      ∙ take-at (w .eeprom) (w .id) (sizeOf part) (s .shaped .eeprom)
+      ∙ take-at (w .eeprom) (w .id ++ events) (sizeOf part) (s .shaped .eeprom)
 
   id-told : take idSize (drop (123 + sizeOf (partIn whole)) whole) ≡ w .id
   id-told =
-      ap (λ (p : ℕ). take idSize (drop (123 + sizeOf p) whole)) part-back ∙ ap (take 16) from-id ∙ take-all 16 (w .id) (le-of-eq (s .shaped .id))
+      ap (λ (p : ℕ). take idSize (drop (123 + sizeOf p) whole)) part-back ∙ ap (take 16) from-id ∙ take-at (w .id) events 16 (s .shaped .id)
 
   pub world-back : worldOf whole ≡ w
   unfolding worldOf numbersOf
-  world-back i = world (device-told part (w .device) memories sound-record i) (eeprom-told i) (id-told i)
+  world-back i = world (device-told part (w .device) memories sound-record (123 + sizeOf part + 16) from-events i) (eeprom-told i) (id-told i)
 
-  chip-long : length whole ≡ 123 + sizeOf part + idSize
+  chip-long : length whole ≡ 123 + sizeOf part + idSize + 5
   unfolding numbersOf
-  chip-long = sum (state-long part (w .device) memories sound-record) (length-append (w .eeprom) (w .id)) (s .shaped .eeprom) (s .shaped .id)
+  chip-long =
+      sum (length (w .id)) (state-long part (w .device) memories sound-record) (length-append (w .eeprom) (w .id ++ events)) (length-append (w .id) events) (s .shaped .eeprom)
+      (s .shaped .id)
     where
-      sum : {n m a b size : ℕ} → n ≡ 123 + m → m ≡ a + b → a ≡ size → b ≡ 16 → n ≡ 123 + size + 16
-      sum p q e i = omega (arith, p, q, e, i)
+      sum : {n m a l size : ℕ} (b : ℕ) → n ≡ 123 + m → m ≡ a + l → l ≡ b + 5 → a ≡ size → b ≡ 16 → n ≡ 123 + size + 16 + 5
+      sum b p q r e i = omega (arith, p, q, r, e, i)
 
   pub sound-facts : Facts whole
   unfolding numbersOf
   sound-facts =
       record {
-        first = record-facts part (w .device) memories sound-record;
+        chip =
+            record {
+              first = record-facts part (w .device) memories sound-record;
+              reach = within (123 + sizeOf part + 16) chip-long;
+              eeprom = bytes-in part (w .device) memories sound-record 123 (sizeOf part) (w .eeprom) (w .id ++ events) from-eeprom (s .shaped .eeprom) (s .shaped .eepromBytes);
+              id = bytes-in part (w .device) memories sound-record (123 + sizeOf part) 16 (w .id) events from-id (s .shaped .id) (s .shaped .idBytes);
+            };
         long = chip-long;
-        eeprom = bytes-in part (w .device) memories sound-record 123 (sizeOf part) (w .eeprom) (w .id) from-eeprom (s .shaped .eeprom) (s .shaped .eepromBytes);
-        id =
-            bytes-in part (w .device) memories sound-record (123 + sizeOf part) 16 (w .id) [] (from-id ∙ sym (append-nil (w .id))) (s .shaped .id) (s .shaped .idBytes);
+        events = event-facts part (w .device) memories sound-record (123 + sizeOf part + 16) from-events;
       }
+    where
+      within : {n : ℕ} (m : ℕ) → n ≡ m + 5 → m ≤ n
+      within m h = omega (arith, h)
+
+  -- The list is a beginning, whatever the event inputs are, and the event inputs.
+  abbrev pub front : List ℕ
+  front = numbersBefore part (w .device) (w .eeprom ++ w .id)
+
+  pub in-two : (t : List ℕ) → numbersBefore part (w .device) (w .eeprom ++ (w .id ++ t)) ≡ front ++ t
+  in-two t = ap (λ (l : List ℕ). part ∷ l) (pieces (w .device .regs) (w .device .sram) (headNumbers (w .device)) (w .device .load .bytes) (tailNumbers (w .device .load) (w .device .cycle)))
+    where
+      pieces :
+          (r q h b l : List ℕ) → r ++ (q ++ (h ++ (b ++ (l ++ (w .eeprom ++ (w .id ++ t)))))) ≡ (r ++ (q ++ (h ++ (b ++ (l ++ (w .eeprom ++ w .id)))))) ++ t
+      pieces r q h b l =
+          sym
+          (append-assoc r (q ++ (h ++ (b ++ (l ++ (w .eeprom ++ w .id))))) t
+          ∙ ap (λ (x : List ℕ). r ++ x)
+          (append-assoc q (h ++ (b ++ (l ++ (w .eeprom ++ w .id)))) t
+          ∙ ap (λ (x : List ℕ). q ++ x)
+          (append-assoc h (b ++ (l ++ (w .eeprom ++ w .id))) t
+          ∙ ap (λ (x : List ℕ). h ++ x)
+          (append-assoc b (l ++ (w .eeprom ++ w .id)) t
+          ∙ ap (λ (x : List ℕ). b ++ x)
+          (append-assoc l (w .eeprom ++ w .id) t ∙ ap (λ (x : List ℕ). l ++ x) (append-assoc (w .eeprom) (w .id) t))))))
+
+  pub front-long : length front ≡ chipEvents whole
+  unfolding numbersOf
+  front-long = sum (state-long part (w .device) (w .eeprom ++ w .id) sound-record) (length-append (w .eeprom) (w .id)) (s .shaped .eeprom) (s .shaped .id)
+    where
+      sum : {n m a b size : ℕ} → n ≡ 123 + m → m ≡ a + b → a ≡ size → b ≡ 16 → n ≡ 123 + size + 16
+      sum p q e i = omega (arith, p, q, e, i)
 
 -- power, mark, frame and cycle from their numbers
 power-from :
@@ -321,9 +385,9 @@ power-from false n s y h k l =
     }
 
 -- The other way: numbers for which the facts hold.
-module _ (ms : List ℕ) (f : RecordFacts ms) where
+module _ (ms : List ℕ) (f : RecordFacts ms) (from : ℕ) where
   abbrev e : Device
-  e = deviceOf ms
+  e = deviceFrom from ms
 
   abbrev room : ℕ
   room = sizeOf (partIn ms)
@@ -367,8 +431,8 @@ module _ (ms : List ℕ) (f : RecordFacts ms) where
   register-told : (j : ℕ) → j < 32 → getD (e .regs) j 0 ≡ registerIn ms j
   register-told j h = piece-at 1 32 j h
 
-  clock-in : ClockRange (bootsOf (partIn ms)) (e .regs) (e .counters)
-  clock-in =
+  clock-in : EventFacts from ms → ClockRange (bootsOf (partIn ms)) (e .regs) (e .counters) (e .events)
+  clock-in g =
       let t = bootsOf (partIn ms) || bit (registerIn ms secondsAt) 7 in
       let l = limit-open t (getD ms 98 0) startupTicks (f .startup) in
       record {
@@ -379,6 +443,9 @@ module _ (ms : List ℕ) (f : RecordFacts ms) where
         watchdog = low refl (ap periodOf (register-told 10 (ltb-true 10 32 refl))) (f .watchdog);
         stopped = λ b o. l .1 (neither b (ap (λ (v : ℕ). bit v 7) (sym (register-told 1 (ltb-true 1 32 refl))) ∙ o));
         inside = λ k h. (λ i. bitAnd (register-told k h i) (getD kept k 0)) ∙ f .regs k h ∙ sym (register-told k h);
+        events =
+            subst (λ (v : ℕ). EventsIn v (e .events)) (sym (register-told 11 (ltb-true 11 32 refl)))
+            (events-from (registerIn ms eventAt) (e .events) (g .door) (g .drum) (g .edges) (g .since) (g .debounce));
       }
     where
       no-more : {n m : ℕ} → n < 1 + m → n ≤ m
@@ -387,13 +454,13 @@ module _ (ms : List ℕ) (f : RecordFacts ms) where
   power-in : PowerRange (e .power) (e .mark) (e .frame .stage) (e .cycle)
   power-in = power-from (powerIn ms) (getD ms 103 0) (stageIn ms) (e .cycle) (f .mark) (low (stage-is .kind) refl (f .kind)) (f .left)
 
-  pub record-sound : SoundRecord (partIn ms) e
-  record-sound =
+  pub record-sound : EventFacts from ms → SoundRecord (partIn ms) e
+  record-sound g =
       record {
         named = f .part;
         range =
             record {
-              clock = clock-in;
+              clock = clock-in g;
               frame = record { offset = f .next; place = stage-is .place };
               cycle = record { countdown = limit-open (powerIn ms && not (foreignToWip (stageIn ms))) (getD ms 122 0) cycleTicks (f .left) .0; place = target-is .place };
               power = power-in;
@@ -446,47 +513,66 @@ module _ (ms : List ℕ) (f : RecordFacts ms) where
       mark-low true h = omega (arith, h)
       mark-low false h = h
 
+-- the last five numbers of a list
+pub events-last : (ms : List ℕ) (k : ℕ) → length ms ≡ k + 5 → eventNumbers (eventsOf k ms) ≡ drop k ms
+events-last ms k l =
+    (λ i. (ap (λ (m : ℕ). getD ms m 0) (sym (add-zero k)) ∙ at 0) i ∷ at 1 i ∷ at 2 i ∷ at 3 i ∷ at 4 i ∷ [])
+    ∙ sym (five (drop k ms) (left-over (length-drop k ms) l))
+  where
+    at : (j : ℕ) → getD ms (k + j) 0 ≡ getD (drop k ms) j 0
+    at j = sym (getD-drop k ms j 0)
+
+    left-over : {a b : ℕ} → a ≡ b - k → b ≡ k + 5 → a ≡ 5
+    left-over p q = omega (arith, p, q)
+
+    five : (l : List ℕ) → length l ≡ 5 → l ≡ getD l 0 0 ∷ getD l 1 0 ∷ getD l 2 0 ∷ getD l 3 0 ∷ getD l 4 0 ∷ []
+    five [] h = absurd (omega (arith, h))
+    five (a ∷ []) h = absurd (omega (arith, h))
+    five (a ∷ b ∷ []) h = absurd (omega (arith, h))
+    five (a ∷ b ∷ c ∷ []) h = absurd (omega (arith, h))
+    five (a ∷ b ∷ c ∷ d ∷ []) h = absurd (omega (arith, h))
+    five (a ∷ b ∷ c ∷ d ∷ e ∷ []) h = refl
+    five (a ∷ b ∷ c ∷ d ∷ e ∷ g ∷ l) h = absurd (omega (arith, h))
+
 -- With the memories behind the record.
 module _ (ms : List ℕ) (f : Facts ms) where
   abbrev space : ℕ
   space = sizeOf (partIn ms)
 
-  to-id : 123 + space ≤ length ms
-  to-id = before-id space (f .long)
-    where
-      before-id : {n : ℕ} (m : ℕ) → n ≡ 123 + m + 16 → 123 + m ≤ n
-      before-id m h = omega (arith, h)
+  abbrev from : ℕ
+  from = chipEvents ms
 
-  to-end : 123 + space + 16 ≤ length ms
-  to-end = le-of-eq (sym (f .long))
+  abbrev first : RecordFacts ms
+  first = f .chip .first
+
+  to-id : 123 + space ≤ length ms
+  to-id = before-id space (f .chip .reach)
+    where
+      before-id : {n : ℕ} (m : ℕ) → 123 + m + 16 ≤ n → 123 + m ≤ n
+      before-id m h = omega (arith, h)
 
   pub facts-sound : Sound (partIn ms) (worldOf ms)
   unfolding worldOf
   facts-sound =
-      let r = record-sound ms (f .first) in
+      let r = record-sound ms first from (f .events) in
       record {
         named = r .named;
         range = r .range;
         shaped =
             record {
               sized = r .sized;
-              eeprom = piece-length ms (f .first) 123 space to-id;
-              id = piece-length ms (f .first) (123 + space) 16 to-end;
-              eepromBytes = piece-bytes ms (f .first) 123 space to-id (f .eeprom);
-              idBytes = piece-bytes ms (f .first) (123 + space) 16 to-end (f .id);
+              eeprom = piece-length ms first from 123 space to-id;
+              id = piece-length ms first from (123 + space) 16 (f .chip .reach);
+              eepromBytes = piece-bytes ms first from 123 space to-id (f .chip .eeprom);
+              idBytes = piece-bytes ms first from (123 + space) 16 (f .chip .reach) (f .chip .id);
             };
         carried = r .carried;
       }
 
-  rest-short : {n : ℕ} (m : ℕ) → n ≡ 123 + m + 16 → n - (123 + m) ≤ 16
-  rest-short m h = omega (arith, h)
-
   pub numbers-back : numbersOf (partIn ms) (worldOf ms) ≡ ms
   unfolding numbersOf worldOf
   numbers-back =
-      record-back ms (f .first) _
-      (piece ms (f .first) 123 space
-      (take-all 16 (drop (123 + space) ms) (subst (λ (n : ℕ). n ≤ 16) (sym (length-drop (123 + space) ms)) (rest-short space (f .long)))))
+      record-back ms first from _ (piece ms first from 123 space (piece ms first from (123 + space) 16 (events-last ms from (f .long))))
 
 -- Together: the numbers of a chip in range, and the chip of good numbers.
 pub sound-numbers : (part : ℕ) (w : World) → Sound part w → IsChip (numbersOf part w)
@@ -499,17 +585,25 @@ pub chip-numbers : (ns : List ℕ) → IsChip ns → numbersOf (partIn ns) (worl
 chip-numbers ns g = numbers-back ns (good-facts ns g)
 
 -- The state array of a record in range, and the record of an array that passes the test.
-pub recorded : (part : ℕ) (d : Device) → SoundRecord part d → isRecord (stateNumbers part d) ≡ true
-unfolding stateNumbers
-recorded part d s = facts-recorded (stateNumbers part d) (record-facts part d [] s) (state-long part d [] s)
+module _ (part : ℕ) (d : Device) (s : SoundRecord part d) where
+  pub recorded : isRecord (stateNumbers part d) ≡ true
+  unfolding stateNumbers
+  recorded =
+      let e = eventNumbers (d .events) in
+      facts-recorded (stateNumbers part d)
+      (record {
+        first = record-facts part d e s;
+        long = state-long part d e s;
+        events = event-facts part d e s 123 (from-123 part d e s);
+      })
+
+  pub device-again : deviceOf (stateNumbers part d) ≡ d
+  unfolding stateNumbers
+  device-again = let e = eventNumbers (d .events) in device-told part d e s 123 (from-123 part d e s)
 
 pub recorded-sound : (ns : List ℕ) → isRecord ns ≡ true → SoundRecord (partIn ns) (deviceOf ns)
-recorded-sound ns t = record-sound ns (recorded-facts ns t .0)
+recorded-sound ns t = let f = recorded-facts ns t in record-sound ns (f .first) 123 (f .events)
 
 pub numbers-again : (ns : List ℕ) → isRecord ns ≡ true → stateNumbers (partIn ns) (deviceOf ns) ≡ ns
 unfolding stateNumbers
-numbers-again ns t = record-back ns (recorded-facts ns t .0) [] (sym (drop-length ns) ∙ ap (λ (n : ℕ). drop n ns) (recorded-facts ns t .1))
-
-pub device-again : (part : ℕ) (d : Device) → SoundRecord part d → deviceOf (stateNumbers part d) ≡ d
-unfolding stateNumbers
-device-again part d s = device-told part d [] s
+numbers-again ns t = let f = recorded-facts ns t in record-back ns (f .first) 123 _ (events-last ns 123 (f .long))

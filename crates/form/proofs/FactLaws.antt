@@ -4,7 +4,7 @@ use mathlib.Core.Path.{_≡_, refl, sym, ap, subst, _∙_}
 use mathlib.Core.Bool.{Bool, true, not, _&&_}
 use mathlib.Core.List.{List, [], _∷_, _++_}
 use Prim.Native.Nat.{ℕ, zero, suc, _+_, _*_, _/_, _<_, _≤_}
-use native.Mathlib.Nat.{le-of-suc-le-suc, not-suc-le-zero, le-of-eq}
+use native.Mathlib.Nat.{add-zero, le-of-suc-le-suc, not-suc-le-zero}
 use native.Mathlib.Omega.{arith}
 use borrow.Author.Tests.{lt-ltb, ltb-true, le-leb, leb-true, eq-eqb, eqb-true}
 use lib.Dec.{ltb, leb, eqb}
@@ -16,12 +16,13 @@ use Rattle.base.proofs.Tests.{both-left, both-right, both-true}
 use Rattle.base.proofs.Every.{every-at, every-all}
 use Rattle.record.specs.Numbers.{stageOf}
 use Rattle.record.specs.Part.{sizeOf, bootsOf}
-use Rattle.record.specs.Registers.{kept}
+use Rattle.record.specs.Registers.{kept, eventAt}
 use Rattle.record.specs.Stages.{foreignToWip}
 use Rattle.record.proofs.PartLaws.{whole-pages}
-use Rattle.form.specs.Table.{partIn, registerIn, startupBy, startupLimit, watchdogBy, watchdogLimit, markBy, markLimit, kindBy, kindLimit, caseGood, valueLimit, targetLimit, leftBy, leftLimit, Row, span, Good, goodTest, recordRows, memoryRows, rows, partRow, registerRow, sramRow, dividerRow, startupRow, watchdogRow, delayRow, pulseRow, powerRow, markRow, welRow, protectionRow, lockRow, stageRow, offsetsRow, loadRow, nextRow, targetRow, leftRow, eepromRow, idRow}
+use Rattle.form.specs.Table.{partIn, registerIn, startupBy, startupLimit, watchdogBy, watchdogLimit, markBy, markLimit, kindBy, kindLimit, caseGood, valueLimit, targetLimit, leftBy, leftLimit, edgesBy, sinceBy, debounceBy, chipEvents, stateEvents, Row, span, Good, goodTest, recordRows, memoryRows, olderRows, eventRows, rows, stateRows, partRow, registerRow, sramRow, dividerRow, startupRow, watchdogRow, delayRow, pulseRow, powerRow, markRow, welRow, protectionRow, lockRow, stageRow, offsetsRow, loadRow, nextRow, targetRow, leftRow, eepromRow, idRow, evlsRow, evhsRow, edgesRow, sinceRow, debounceRow}
 use Rattle.form.specs.Chip.{IsChip, isRecord}
-use Rattle.form.specs.Facts.{RecordFacts, Facts}
+use Rattle.form.specs.Facts.{RecordFacts, EventFacts, StateFacts, MemoryFacts, Facts}
+use Rattle.form.proofs.TableLaws.{placeAfter}
 
 -- one place, two, three
 one-place : (P : ℕ → Type 0) → P 0 → (j : ℕ) → j < 1 → P j
@@ -43,7 +44,7 @@ three-places P p q r (suc (suc (suc j))) h = absurd (not-suc-le-zero (le-of-suc-
 reaches : (n : ℕ) → 123 ≤ n → (k : ℕ) → leb k 123 ≡ true → k ≤ n
 reaches n h k t = omega (arith, leb-true k 123 t)
 
-reaches-eeprom : (n m : ℕ) → n ≡ 123 + m + 16 → 123 + m ≤ n
+reaches-eeprom : (n m : ℕ) → 123 + m + 16 ≤ n → 123 + m ≤ n
 reaches-eeprom n m e = omega arith
 
 -- Good numbers are those that pass the test.
@@ -149,13 +150,14 @@ module _ (ns : List ℕ) where
       (before targetRow _ 120 2 refl (reach 122 refl) (two-places _ (lt-ltb _ _ (f .target)) (within (sym target-told) (f .place)))
       (before leftRow _ 122 1 refl (reach 123 refl) (one-place _ (within (sym left-told) (f .left))) g))))))))))))))))))
 
-  pub facts-good : Facts ns → IsChip ns
-  unfolding places rows eepromRow idRow
-  facts-good f =
+  -- part, record and memories before others
+  memories-before : (rs : List Row) → MemoryFacts ns → Good rs (chipEvents ns) ns → Good (olderRows ++ rs) 0 ns
+  unfolding places eepromRow idRow
+  memories-before rs f g =
       let size = sizeOf (partIn ns) in
-      record-before memoryRows (f .first)
-      (before eepromRow _ 123 size pages-told (reaches-eeprom (length ns) size (f .long)) (λ j h. lt-ltb _ _ (f .eeprom j h))
-      (before idRow _ (123 + size) 16 refl (le-of-eq (sym (f .long))) (λ j h. lt-ltb _ _ (f .id j h)) (ended (f .long))))
+      record-before (memoryRows ++ rs) (f .first)
+      (before eepromRow _ 123 size pages-told (reaches-eeprom (length ns) size (f .reach)) (λ j h. lt-ltb _ _ (f .eeprom j h))
+      (before idRow _ (123 + size) 16 refl (f .reach) (λ j h. lt-ltb _ _ (f .id j h)) g))
 
   -- the other way
   below : {n m k : ℕ} → m ≡ k → ltb n m ≡ true → n < k
@@ -218,26 +220,145 @@ module _ (ns : List ℕ) where
         g-left .2,
       )
 
-  pub good-facts : IsChip ns → Facts ns
-  unfolding places rows eepromRow idRow
-  good-facts g =
-      let g-record = record-off memoryRows g in
+  memories-off : (rs : List Row) → Good (olderRows ++ rs) 0 ns → MemoryFacts ns × Good rs (chipEvents ns) ns
+  unfolding places eepromRow idRow
+  memories-off rs g =
+      let g-record = record-off (memoryRows ++ rs) g in
       let g-eeprom = off eepromRow _ 123 (sizeOf (partIn ns)) pages-told (g-record .1) in
-      let g-id = off idRow _ (123 + sizeOf (partIn ns)) 16 refl (g-eeprom .2) in
-      record {
-        first = g-record .0;
-        long = is-end (g-id .2);
-        eeprom = λ j h. ltb-true _ _ (g-eeprom .1 j h);
-        id = λ j h. ltb-true _ _ (g-id .1 j h);
-      }
+      let g-id = off idRow _ (123 + sizeOf (partIn ns)) 16 refl (g-eeprom .2) in (
+        record {
+          first = g-record .0;
+          reach = g-id .0;
+          eeprom = λ j h. ltb-true _ _ (g-eeprom .1 j h);
+          id = λ j h. ltb-true _ _ (g-id .1 j h);
+        },
+        g-id .2,
+      )
 
-  -- a list of part and record alone
-  pub facts-recorded : RecordFacts ns → length ns ≡ 123 → isRecord ns ≡ true
+  -- a row of one number at place m, with those after it from n on: put before others and taken off
+  one-before :
+      (r : Row) (rs : List Row) (m n : ℕ) → span r (take m ns) ≡ 1 → m + 1 ≡ n → n ≤ length ns → r .good (take m ns) 0 (getD ns m 0) ≡ true → Good rs n ns
+      → Good (r ∷ rs) m ns
+  unfolding places
+  one-before r rs m n e p l t g = before r rs m 1 e (fits p l) at (subst (λ (i : ℕ). Good rs i ns) (sym p) g)
+    where
+      fits : {a b c : ℕ} → a ≡ b → b ≤ c → a ≤ c
+      fits u v = omega (arith, u, v)
+
+      at : (j : ℕ) → j < 1 → r .good (take (m + j) ns) j (getD ns (m + j) 0) ≡ true
+      at zero h = (λ i. r .good (take (add-zero m i) ns) 0 (getD ns (add-zero m i) 0)) ∙ t
+      at (suc j) h = absurd (not-suc-le-zero (le-of-suc-le-suc h))
+
+  one-off :
+      (r : Row) (rs : List Row) (m n : ℕ) → span r (take m ns) ≡ 1 → m + 1 ≡ n → Good (r ∷ rs) m ns
+      → (r .good (take m ns) 0 (getD ns m 0) ≡ true) × (n ≤ length ns) × Good rs n ns
+  unfolding places
+  one-off r rs m n e p g =
+      let o = off r rs m 1 e g in (
+        sym (λ i. r .good (take (add-zero m i) ns) 0 (getD ns (add-zero m i) 0)) ∙ o .1 0 (ltb-true 0 1 refl),
+        subst (λ (i : ℕ). i ≤ length ns) p (o .0),
+        subst (λ (i : ℕ). Good rs i ns) p (o .2),
+      )
+
+  -- The rows of the event inputs from place k on, which the numbers before them tell.
+  module _ (place : List ℕ → ℕ) (k : ℕ) (past : 123 ≤ k) (here : (m : ℕ) → 123 ≤ m → place (take m ns) ≡ k) where
+    later : (j : ℕ) → 123 ≤ k + j
+    later j = omega (arith, past)
+
+    control-told : (m : ℕ) → 123 ≤ m → registerIn (take m ns) eventAt ≡ registerIn ns eventAt
+    control-told m h = getD-take m ns 12 0 (omega (arith, h))
+
+    edges-told : edgesBy (registerIn (take (k + 2) ns) eventAt) ≡ edgesBy (registerIn ns eventAt)
+    edges-told = ap edgesBy (control-told (k + 2) (later 2))
+
+    since-told : sinceBy (getD (take (k + 3) ns) (place (take (k + 3) ns) + 2) 0) ≡ sinceBy (getD ns (k + 2) 0)
+    since-told =
+        (λ i. sinceBy (getD (take (k + 3) ns) (here (k + 3) (later 3) i + 2) 0)) ∙ ap sinceBy (getD-take (k + 3) ns (k + 2) 0 (omega arith))
+
+    debounce-told :
+        debounceBy (registerIn (take (k + 4) ns) eventAt) (getD (take (k + 4) ns) (place (take (k + 4) ns)) 0)
+        ≡ debounceBy (registerIn ns eventAt) (getD ns k 0)
+    debounce-told =
+        (λ i. debounceBy (control-told (k + 4) (later 4) i) (getD (take (k + 4) ns) (here (k + 4) (later 4) i) 0))
+        ∙ ap (debounceBy (registerIn ns eventAt)) (getD-take (k + 4) ns k 0 (omega arith))
+
+    on-1 : k + 1 + 1 ≡ k + 2
+    on-1 = omega arith
+
+    on-2 : k + 2 + 1 ≡ k + 3
+    on-2 = omega arith
+
+    on-3 : k + 3 + 1 ≡ k + 4
+    on-3 = omega arith
+
+    on-4 : k + 4 + 1 ≡ k + 5
+    on-4 = omega arith
+
+    events-before : EventFacts k ns → length ns ≡ k + 5 → Good (eventRows place) k ns
+    unfolding evlsRow evhsRow edgesRow sinceRow debounceRow
+    events-before f l =
+        one-before evlsRow _ k (k + 1) refl refl (fits 1 (ltb-true 1 6 refl) l) (lt-ltb _ _ (f .door))
+        (one-before evhsRow _ (k + 1) (k + 2) refl on-1 (fits 2 (ltb-true 2 6 refl) l) (lt-ltb _ _ (f .drum))
+        (one-before edgesRow _ (k + 2) (k + 3) refl on-2 (fits 3 (ltb-true 3 6 refl) l) (within (sym edges-told) (f .edges))
+        (one-before (sinceRow place) _ (k + 3) (k + 4) refl on-3 (fits 4 (ltb-true 4 6 refl) l) (within (sym since-told) (f .since))
+        (one-before (debounceRow place) _ (k + 4) (k + 5) refl on-4 (fits 5 (ltb-true 5 6 refl) l) (within (sym debounce-told) (f .debounce)) (ended l)))))
+      where
+        fits : (j : ℕ) {n : ℕ} → j < 6 → n ≡ k + 5 → k + j ≤ n
+        fits j h e = omega (arith, h, e)
+
+    events-off : Good (eventRows place) k ns → EventFacts k ns × (length ns ≡ k + 5)
+    unfolding evlsRow evhsRow edgesRow sinceRow debounceRow
+    events-off g =
+        let g-evls = one-off evlsRow _ k (k + 1) refl refl g in
+        let g-evhs = one-off evhsRow _ (k + 1) (k + 2) refl on-1 (g-evls .2) in
+        let g-edges = one-off edgesRow _ (k + 2) (k + 3) refl on-2 (g-evhs .2) in
+        let g-since = one-off (sinceRow place) _ (k + 3) (k + 4) refl on-3 (g-edges .2) in
+        let g-debounce = one-off (debounceRow place) _ (k + 4) (k + 5) refl on-4 (g-since .2) in (
+          record {
+            door = ltb-true _ _ (g-evls .0);
+            drum = ltb-true _ _ (g-evhs .0);
+            edges = below edges-told (g-edges .0);
+            since = below since-told (g-since .0);
+            debounce = below debounce-told (g-debounce .0);
+          },
+          is-end (g-debounce .2),
+        )
+
+  -- where they are: behind the memories, or behind the record
+  past-memories : (n : ℕ) → 123 ≤ 123 + n + 16
+  past-memories n = omega arith
+
+  behind-memories : (m : ℕ) → 123 ≤ m → chipEvents (take m ns) ≡ chipEvents ns
+  behind-memories m h = ap (λ (p : ℕ). 123 + sizeOf p + 16) (getD-take m ns 0 0 (omega (arith, h)))
+
+  pub facts-good : Facts ns → IsChip ns
+  unfolding rows
+  facts-good f =
+      memories-before (eventRows chipEvents) (f .chip)
+      (events-before chipEvents (chipEvents ns) (past-memories (sizeOf (partIn ns))) behind-memories (f .events) (f .long))
+
+  pub good-facts : IsChip ns → Facts ns
+  unfolding rows
+  good-facts g =
+      let g-chip = memories-off (eventRows chipEvents) g in
+      let g-events = events-off chipEvents (chipEvents ns) (past-memories (sizeOf (partIn ns))) behind-memories (g-chip .1) in
+      record { chip = g-chip .0; long = g-events .1; events = g-events .0 }
+
+  -- the place after part, record and memories
+  pub place-older : placeAfter olderRows 0 ns ≡ chipEvents ns
+  unfolding placeAfter partRow registerRow sramRow dividerRow startupRow watchdogRow delayRow pulseRow powerRow markRow welRow protectionRow lockRow stageRow offsetsRow loadRow nextRow targetRow leftRow eepromRow idRow
+  place-older = ap (λ (n : ℕ). 123 + n + 16) pages-told
+
+  -- a list of part, record and event inputs
+  pub facts-recorded : StateFacts ns → isRecord ns ≡ true
   unfolding isRecord
-  facts-recorded f e = good-test recordRows 0 ns (record-before [] f (ended e))
+  facts-recorded f =
+      good-test stateRows 0 ns
+      (record-before (eventRows stateEvents) (f .first) (events-before stateEvents 123 (leb-true 123 123 refl) (λ m h. refl) (f .events) (f .long)))
 
-  pub recorded-facts : isRecord ns ≡ true → RecordFacts ns × (length ns ≡ 123)
+  pub recorded-facts : isRecord ns ≡ true → StateFacts ns
   unfolding isRecord
   recorded-facts t =
-      let p = record-off [] (test-good recordRows 0 ns t) in
-      (p .0, is-end (p .1))
+      let p = record-off (eventRows stateEvents) (test-good stateRows 0 ns t) in
+      let q = events-off stateEvents 123 (leb-true 123 123 refl) (λ m h. refl) (p .1) in
+      record { first = p .0; long = q .1; events = q .0 }

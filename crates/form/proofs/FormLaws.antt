@@ -13,7 +13,7 @@ use lib.ListN.{take, drop, take-append-drop}
 use lib.Seq.{take-take}
 use Rattle.base.proofs.Tests.{by-cases, yes, no, true-false}
 use Rattle.form.specs.Lines.{lineText, readLine, linesIn, joined}
-use Rattle.form.specs.Form.{Form, done, line, taken, texts, Loaded, loaded, bad, later, onLine, judged, load, Saves, Begins, FirstBad, Live, LoadsRight}
+use Rattle.form.specs.Form.{Form, done, line, mayEnd, taken, texts, Loaded, loaded, bad, later, onLine, judged, load, Saves, Begins, FirstBad, Live, LoadsRight}
 use Rattle.form.proofs.LinesLaws.{read-text, text-read, lines-line, joined-lines}
 
 -- lists that begin and go on alike
@@ -74,6 +74,36 @@ module _ {A : Type 0} where
           })
           (λ f. absurd (Option·none-ne-some (s .value) (no (taken (next x) xs) none f ∙ g)))
 
+  -- no numbers have no lines, and numbers that are taken have some
+  pub texts-none : (f : Form A) → texts f [] ≡ []
+  unfolding texts
+  texts-none (done a) = refl
+  texts-none (line key test next) = refl
+  texts-none (mayEnd a f) = texts-none f
+
+  texts-some : (f : Form A) (x : List ℕ) (xs : List (List ℕ)) (a : A) → taken f (x ∷ xs) ≡ some a → texts f (x ∷ xs) ≡ [] → ⊥
+  unfolding texts taken
+  texts-some (done b) x xs a g e = Option·none-ne-some a g
+  texts-some (line key test next) x xs a g e = cons-ne-nil (lineText key x) (texts (next x) xs) e
+  texts-some (mayEnd b f) x xs a g e = texts-some f x xs a g e
+
+  -- a place where it may end: what is saved without the place is saved with it, and what has a line the other way too
+  saves-open : (a : A) (f : Form A) (ps : List (List ℕ)) → Saves f ps → Saves (mayEnd a f) ps
+  unfolding taken texts
+  saves-open a f ps s = go (s .numbers) (s .good) (s .lines)
+    where
+      go : (xs : List (List ℕ)) → taken f xs ≡ some (s .value) → texts f xs ≡ ps → Saves (mayEnd a f) ps
+      go [] g l = record { numbers = []; value = a; good = refl; lines = l }
+      go (x ∷ xs) g l = record { numbers = x ∷ xs; value = s .value; good = g; lines = l }
+
+  saves-shut : (a : A) (f : Form A) (p : List ℕ) (ps : List (List ℕ)) → Saves (mayEnd a f) (p ∷ ps) → Saves f (p ∷ ps)
+  unfolding taken texts
+  saves-shut a f p ps s = go (s .numbers) (s .good) (s .lines)
+    where
+      go : (xs : List (List ℕ)) → taken (mayEnd a f) xs ≡ some (s .value) → texts f xs ≡ p ∷ ps → Saves f (p ∷ ps)
+      go [] g l = absurd (cons-ne-nil p ps (sym l ∙ texts-none f))
+      go (x ∷ xs) g l = record { numbers = x ∷ xs; value = s .value; good = g; lines = l }
+
   -- something is saved
   some-saved : (f : Form A) → Live f → (ps : List (List ℕ)) × Saves f ps
   unfolding Live taken texts
@@ -81,6 +111,7 @@ module _ {A : Type 0} where
   some-saved (line key test next) l =
       let s = some-saved (next (l .filler)) (l .onwards (l .filler) (l .filled)) in
       (lineText key (l .filler) ∷ s .0, saves-line key test next (l .filler) (s .0) (l .filled) (s .1))
+  some-saved (mayEnd a f) l = let s = some-saved f l in (s .0, saves-open a f (s .0) (s .1))
 
   begins-none : (f : Form A) → Live f → Begins f []
   begins-none f l = let s = some-saved f l in record { rest = s .0; whole = s .1 }
@@ -136,6 +167,26 @@ module _ {A : Type 0} where
                 (d .after);
           }
 
+  -- a line where it might have ended
+  told-on : (b : A) (f : Form A) (p : List ℕ) (ps : List (List ℕ)) (r : Loaded A) → Told f (p ∷ ps) r → Told (mayEnd b f) (p ∷ ps) r
+  unfolding taken texts
+  told-on b f p ps (loaded a) d = go (d .0) (d .1) (d .2)
+    where
+      go : (xs : List (List ℕ)) → taken f xs ≡ some a → texts f xs ≡ p ∷ ps → Told (mayEnd b f) (p ∷ ps) (loaded a)
+      go [] g l = absurd (cons-ne-nil p ps (sym l ∙ texts-none f))
+      go (x ∷ xs) g l = (x ∷ xs, g, l)
+  told-on b f p ps (bad zero) d = absurd d
+  told-on b f p ps (bad (suc k)) d =
+      record {
+        before =
+            record { rest = d .before .rest; whole = saves-open b f (take k (p ∷ ps) ++ d .before .rest) (d .before .whole) };
+        after =
+            ⊎-elim
+            (λ w. inl (w .0, λ e. w .1 (record { rest = e .rest; whole = saves-shut b f p (take k ps ++ e .rest) (e .whole) })))
+            (λ w. inr (w .0, λ s. w .1 (saves-shut b f p ps s)))
+            (d .after);
+      }
+
   -- what a file gives is so
   told : (f : Form A) → Live f → (ps : List (List ℕ)) → Told f ps (judged f ps)
   unfolding judged taken texts Live
@@ -154,6 +205,8 @@ module _ {A : Type 0} where
       empty : (xs : List (List ℕ)) (a : A) → taken (line key test next) xs ≡ some a → texts (line key test next) xs ≡ [] → ⊥
       empty [] a g e = Option·none-ne-some a g
       empty (x ∷ xs) a g e = cons-ne-nil (lineText key x) (texts (next x) xs) e
+  told (mayEnd a f) l [] = ([], refl, texts-none f)
+  told (mayEnd a f) l (p ∷ ps) = told-on a f p ps (judged f (p ∷ ps)) (told f l (p ∷ ps))
   told (line key test next) l (p ∷ ps) = go (readLine key p) refl (λ x t. told (next x) (l .onwards x t) ps)
     where
       go :
@@ -216,6 +269,12 @@ module _ {A : Type 0} where
       let w = taken-first key test next x xs a g in
       let r = saved-loaded (next x) (l .onwards x (w .0)) xs a (w .1) in
       rw (read-good key test (l .some-number) x (w .0), w .0, r)
+  saved-loaded (mayEnd b f) l [] a g = ap (judged (mayEnd b f)) (texts-none f) ∙ ap loaded (Option·some-injective b a g)
+  saved-loaded (mayEnd b f) l (x ∷ xs) a g = go (texts f (x ∷ xs)) (texts-some f x xs a g) (saved-loaded f l (x ∷ xs) a g)
+    where
+      go : (ps : List (List ℕ)) → (ps ≡ [] → ⊥) → judged f ps ≡ loaded a → judged (mayEnd b f) ps ≡ loaded a
+      go [] n e = absurd (n refl)
+      go (p ∷ ps) n e = e
 
   -- the lines of a saved text
   pub saved-lines : (f : Form A) → Live f → (xs : List (List ℕ)) (a : A) → taken f xs ≡ some a → linesIn (joined (texts f xs)) ≡ texts f xs
@@ -228,6 +287,8 @@ module _ {A : Type 0} where
       let r = saved-lines (next x) (l .onwards x (w .0)) xs a (w .1) in
       lines-line key x (joined (texts (next x) xs)) (l .keyed)
       ∙ ap (λ (q : List (List ℕ)). lineText key x ∷ q) r
+  saved-lines (mayEnd b f) l [] a g = ap (λ (q : List (List ℕ)). linesIn (joined q)) (texts-none f) ∙ sym (texts-none f)
+  saved-lines (mayEnd b f) l (x ∷ xs) a g = saved-lines f l (x ∷ xs) a g
 
   -- the claim
   pub loads-right : (f : Form A) → Live f → LoadsRight f

@@ -3,6 +3,7 @@ pub mod FormLaws
 pub mod TableLaws
 pub mod FactLaws
 pub mod StageLaws
+pub mod EventLaws
 pub mod ChipLaws
 pub mod StateLaws
 pub mod LiveLaws

@@ -4,7 +4,7 @@ use mathlib.Core.Path.{_≡_, refl, ap}
 use mathlib.Core.Bool.{true, false, not, _&&_, _||_, or-true}
 use mathlib.Core.List.{List, [], _∷_, _++_}
 use Prim.Native.String.{String}
-use Prim.Native.Nat.{ℕ, zero, suc}
+use Prim.Native.Nat.{ℕ, zero, suc, _+_}
 use native.Mathlib.Omega.{arith}
 use borrow.Author.Tests.{lt-ltb, ltb-true, ltb-false, eq-eqb}
 use lib.Dec.{ltb, eqb}
@@ -13,8 +13,10 @@ use lib.ListN.{getD, List·getD-eq-default}
 use Rattle.base.specs.Words.{pick, bit, every}
 use Rattle.base.proofs.Tests.{by-cases, pick-case, both-true}
 use Rattle.base.proofs.Every.{every-at}
+use Rattle.events.specs.Control.{even1, even0, numberOf, debounceOf}
+use Rattle.events.proofs.ControlLaws.{number-least}
 use Rattle.record.specs.Part.{sizeOf, bootsOf}
-use Rattle.record.specs.Registers.{kept, secondsAt, watchdogAt, periodOf}
+use Rattle.record.specs.Registers.{kept, secondsAt, watchdogAt, eventAt, periodOf}
 use Rattle.record.specs.Stages.{foreignToWip}
 use Rattle.record.proofs.PeriodLaws.{period-least}
 use Rattle.text.specs.Bytes.{bytesOf}
@@ -22,9 +24,9 @@ use Rattle.text.specs.Decimal.{decimalText}
 use Rattle.text.proofs.DecimalLaws.{decimal-digits}
 use Rattle.form.specs.Lines.{unbroken}
 use Rattle.form.specs.Form.{Live}
-use Rattle.form.specs.Table.{row, memoryRow, partIn, registerIn, powerIn, stageIn, caseLimit, caseGood, addressLimit, valueLimit, targetLimit, stageGood, targetGood, rows, chipForm, partRow, registerRow, sramRow, dividerRow, startupRow, watchdogRow, delayRow, pulseRow, powerRow, markRow, welRow, protectionRow, lockRow, stageRow, offsetsRow, loadRow, nextRow, targetRow, leftRow, eepromRow, idRow}
+use Rattle.form.specs.Table.{row, memoryRow, partIn, registerIn, powerIn, stageIn, caseLimit, caseGood, addressLimit, valueLimit, targetLimit, edgesBy, sinceBy, debounceBy, chipEvents, stageGood, targetGood, olderRows, eventRows, laterGroups, groupsForm, chipForm, partRow, registerRow, sramRow, dividerRow, startupRow, watchdogRow, delayRow, pulseRow, powerRow, markRow, welRow, protectionRow, lockRow, stageRow, offsetsRow, loadRow, nextRow, targetRow, leftRow, eepromRow, idRow, evlsRow, evhsRow, edgesRow, sinceRow, debounceRow}
 use Rattle.form.proofs.LinesLaws.{unbroken-append, unbroken-digits}
-use Rattle.form.proofs.TableLaws.{RowLive, RowsLive, rows-live}
+use Rattle.form.proofs.TableLaws.{RowLive, RowsLive, RowsZero, GroupsLive, rows-live, groups-live}
 
 -- a key with a number
 numbered-key : (key : String) → unbroken (bytesOf key) ≡ true → (i : ℕ) → unbroken (bytesOf key ++ decimalText i) ≡ true
@@ -70,9 +72,9 @@ targets-alive : (b : List ℕ) (j : ℕ) → targetGood b j 0 ≡ true
 targets-alive b zero = refl
 targets-alive b (suc j) = target-alive (sizeOf (partIn b)) (getD b 120 0) (size-alive (partIn b))
 
-pub table-live : RowsLive rows
-unfolding RowsLive rows partRow registerRow sramRow dividerRow startupRow watchdogRow delayRow pulseRow powerRow markRow welRow protectionRow lockRow stageRow offsetsRow loadRow nextRow targetRow leftRow eepromRow idRow unbroken
-table-live = (
+pub older-live : RowsLive olderRows
+unfolding RowsLive partRow registerRow sramRow dividerRow startupRow watchdogRow delayRow pulseRow powerRow markRow welRow protectionRow lockRow stageRow offsetsRow loadRow nextRow targetRow leftRow eepromRow idRow unbroken
+older-live = (
   record { keyed = λ i. refl; wide = ltb-true 0 1 refl; filler = 1; fills = λ b j. refl },
   (
     record { keyed = numbered-key "reg" refl; wide = ltb-true 0 1 refl; filler = 0; fills = λ b j. eq-eqb (bitAnd 0 (getD kept j 0)) 0 (and-zero-l (getD kept j 0)) },
@@ -134,6 +136,50 @@ table-live = (
   ),
 )
 
+-- the event inputs: 0 is good at each of their places
+edges-alive : (v : ℕ) → Some (edgesBy v)
+edges-alive v = pick-case Some (even1 v) (lt-ltb 0 (numberOf v) (number-least v)) refl
+
+since-alive : (edges : ℕ) → Some (sinceBy edges)
+since-alive edges = pick-case Some (ltb 0 edges) refl refl
+
+debounce-alive : (v level : ℕ) → Some (debounceBy v level)
+debounce-alive v level = pick-case Some (even0 v && ltb 0 level) (lt-ltb 0 (suc (debounceOf v)) (omega arith)) refl
+
+module _ (place : List ℕ → ℕ) where
+  pub events-live : RowsLive (eventRows place)
+  unfolding RowsLive evlsRow evhsRow edgesRow sinceRow debounceRow unbroken
+  events-live = (
+    row-alive "evls" _ refl (λ b. refl),
+    (
+      row-alive "evhs" _ refl (λ b. refl),
+      (
+        row-alive "edges" _ refl (λ b. edges-alive (registerIn b eventAt)),
+        (
+          row-alive "since" _ refl (λ b. since-alive (getD b (place b + 2) 0)),
+          (row-alive "debounce" _ refl (λ b. debounce-alive (registerIn b eventAt) (getD b (place b) 0)), tt),
+        ),
+      ),
+    ),
+  )
+
+  pub events-zero : RowsZero (eventRows place)
+  unfolding RowsZero evlsRow evhsRow edgesRow sinceRow debounceRow
+  events-zero = (
+    λ b j. refl,
+    (
+      λ b j. refl,
+      (
+        λ b j. edges-alive (registerIn b eventAt),
+        (λ b j. since-alive (getD b (place b + 2) 0), (λ b j. debounce-alive (registerIn b eventAt) (getD b (place b) 0), tt)),
+      ),
+    ),
+  )
+
+pub later-live : GroupsLive laterGroups
+unfolding GroupsLive
+later-live = (events-live chipEvents, tt)
+
 pub chip-live : Live chipForm
 unfolding chipForm
-chip-live = rows-live rows table-live []
+chip-live = rows-live olderRows older-live (groupsForm laterGroups) (groups-live laterGroups later-live) []

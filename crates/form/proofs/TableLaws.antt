@@ -2,20 +2,21 @@
 -- can always be carried on.
 -- Assumes nothing.
 use mathlib.Core.Path.{_≡_, refl, sym, ap, subst, _∙_}
+use mathlib.Core.Logic.{_⊎_, inl, inr, ⊎-elim}
 use mathlib.Core.Bool.{true}
-use mathlib.Core.List.{List, [], _∷_, _++_, append-nil, append-assoc}
+use mathlib.Core.List.{List, [], _∷_, _++_, append-nil, append-assoc, cons-ne-nil}
 use mathlib.Core.Option.{Option, none, some, Option·some-injective, Option·none-ne-some}
 use Prim.Native.Nat.{ℕ, zero, suc, _+_, _*_, _<_, _≤_, suc-le-suc}
 use native.Mathlib.Nat.{add-zero, zero-mul, suc-mul, le-of-suc-le-suc}
 use native.Mathlib.Omega.{arith}
 use borrow.Author.Tests.{eq-eqb, eqb-true, ne-eqb}
 use lib.Dec.{eqb}
-use lib.ListN.{length, take, drop, getD, length-append, length-take, length-drop, replicate, length-replicate, List·getD-append}
+use lib.ListN.{length, take, drop, getD, length-append, length-take, length-drop, take-append-drop, replicate, length-replicate, List·getD-append}
 use lib.Seq.{take-take, take-all, take-add, take-at, drop-at, getD-take, getD-drop, append-snoc, length-take-le, take-append-le, getD-append-add}
 use Rattle.base.proofs.Tests.{no, both-left, both-right, both-true}
 use Rattle.form.specs.Lines.{lineText, joined, unbroken}
-use Rattle.form.specs.Form.{Form, line, taken, texts, Live}
-use Rattle.form.specs.Table.{Row, keyOf, span, Good, numbersAt, rowText, textFrom, goodAfter, lineGood, rowForm, formFrom}
+use Rattle.form.specs.Form.{Form, done, line, mayEnd, taken, texts, Live}
+use Rattle.form.specs.Table.{Row, inGroups, keyOf, span, Good, numbersAt, rowText, textFrom, goodAfter, lineGood, rowForm, rowsForm, zerosAfter, groupsForm}
 use Rattle.form.proofs.FormLaws.{taken-first}
 
 -- numbers that come after others, one by one
@@ -170,71 +171,152 @@ unfoldable pub cutFrom : List Row → ℕ → List ℕ → List (List ℕ)
 cutFrom [] k ns = []
 cutFrom (r ∷ rs) k ns = cutRow r (r .lines (take k ns)) k ns ++ cutFrom rs (k + span r (take k ns)) ns
 
-pub good-taken :
-    (rs : List Row) (k : ℕ) (ns : List ℕ) → Good rs k ns → taken (formFrom rs (take k ns)) (cutFrom rs k ns) ≡ some ns
-unfolding Good formFrom cutFrom taken
-good-taken [] k ns g = ap some (take-all k ns (omega (arith, g)))
-good-taken (r ∷ rs) k ns g =
-    row-taken r (formFrom rs) (r .lines (take k ns)) 0 k ns (cutFrom rs (k + span r (take k ns)) ns) ns (g .0)
-    (λ j h.
-    let z : 0 * r .width + j ≡ j = omega (arith, zero-mul (r .width)) in
-    ap (λ (m : ℕ). r .good (take (k + j) ns) m (getD ns (k + j) 0)) z ∙ g .1 j h)
-    (good-taken rs (k + span r (take k ns)) ns (g .2))
+-- the place after rows
+unfoldable pub placeAfter : List Row → ℕ → List ℕ → ℕ
+placeAfter [] k ns = k
+placeAfter (r ∷ rs) k ns = placeAfter rs (k + span r (take k ns)) ns
 
--- what a form of rows took: numbers that go on from those before, good by the rows, and their lines
-pub record Given (rs : List Row) (b : List ℕ) (ls : List (List ℕ)) (ns : List ℕ) : Type 0 where
+-- the rows that come after good ones
+pub good-rest : (rs rest : List Row) (k : ℕ) (ns : List ℕ) → Good (rs ++ rest) k ns → Good rest (placeAfter rs k ns) ns
+unfolding Good placeAfter
+good-rest [] rest k ns g = g
+good-rest (r ∷ rs) rest k ns g = good-rest rs rest (k + span r (take k ns)) ns (g .2)
+
+module _ (rest : List Row) (next : List ℕ → Form (List ℕ)) where
+  pub rows-taken :
+      (rs : List Row) (k : ℕ) (ns : List ℕ) (ls : List (List ℕ)) (a : List ℕ) → Good (rs ++ rest) k ns
+      → taken (next (take (placeAfter rs k ns) ns)) ls ≡ some a → taken (rowsForm rs next (take k ns)) (cutFrom rs k ns ++ ls) ≡ some a
+  unfolding Good rowsForm cutFrom placeAfter
+  rows-taken [] k ns ls a g t = t
+  rows-taken (r ∷ rs) k ns ls a g t =
+      let m = k + span r (take k ns) in
+      let first = cutRow r (r .lines (take k ns)) k ns in
+      ap (taken (rowsForm (r ∷ rs) next (take k ns))) (append-assoc first (cutFrom rs m ns) ls)
+      ∙ row-taken r (rowsForm rs next) (r .lines (take k ns)) 0 k ns (cutFrom rs m ns ++ ls) a (g .0)
+      (λ j h.
+      let z : 0 * r .width + j ≡ j = omega (arith, zero-mul (r .width)) in
+      ap (λ (i : ℕ). r .good (take (k + j) ns) i (getD ns (k + j) 0)) z ∙ g .1 j h)
+      (rows-taken rs m ns ls a (g .2) t)
+
+-- a list that goes on from another, good by the rows
+pub record Goes (rs : List Row) (b ns : List ℕ) : Type 0 where
   pub more : List ℕ
   pub whole : ns ≡ b ++ more
   pub good : Good rs (length b) ns
-  pub cut : ls ≡ cutFrom rs (length b) ns
 
-given-more :
-    (r : Row) (rs : List Row) (b : List ℕ) (ls : List (List ℕ)) (ns : List ℕ) (o : Took r (formFrom rs) (r .lines b) 0 b ls ns)
-    → Given rs (b ++ o .x) (o .after) ns → Given (r ∷ rs) b ls ns
-unfolding Good cutFrom
-given-more r rs b ls ns o g =
-    let x = o .x in
-    let k = length b in
+pub goes-none : (b : List ℕ) → Goes [] b b
+unfolding Good
+goes-none b = record { more = []; whole = sym (append-nil b); good = refl }
+
+-- numbers of a row before it
+module _ (r : Row) (b x more ns : List ℕ) (long : length x ≡ span r b) (whole : ns ≡ b ++ (x ++ more)) where
+  abbrev k : ℕ
+  k = length b
+
+  before-told : take k ns ≡ b
+  before-told = ap (take k) whole ∙ take-at b (x ++ more) k refl
+
+  span-told : span r (take k ns) ≡ length x
+  span-told = ap (span r) before-told ∙ sym long
+
+  place-told : length (b ++ x) ≡ k + span r (take k ns)
+  place-told = length-append b x ∙ ap (λ (m : ℕ). k + m) (sym span-told)
+
+  each-good : goodAfter r b (0 * r .width) x ≡ true → (j : ℕ) → j < length x → r .good (take (k + j) ns) j (getD ns (k + j) 0) ≡ true
+  each-good g j h =
+      let z : 0 * r .width + j ≡ j = omega (arith, zero-mul (r .width)) in
+      let u : take (k + j) ns ≡ b ++ take j x =
+      take-add k j ns
+      ∙ (λ q. take k (whole q) ++ take j (drop k (whole q)))
+      ∙ (λ q. take-at b (x ++ more) k refl q ++ take j (drop-at b (x ++ more) k refl q))
+      ∙ ap (λ (y : List ℕ). b ++ y) (take-append-le j x more (omega arith)) in
+      let v : getD ns (k + j) 0 ≡ getD x j 0 =
+      ap (λ (y : List ℕ). getD y (k + j) 0) whole ∙ getD-append-add b (x ++ more) j 0 ∙ List·getD-append x more 0 j h in
+      (λ q. r .good (u q) (sym z q) (v q)) ∙ after-at r b (0 * r .width) x g j h
+
+  enough : k + span r (take k ns) ≤ length ns
+  enough = omega (arith, span-told, ap length whole, length-append b (x ++ more), length-append x more)
+
+pub goes-more :
+    (r : Row) (rs : List Row) (b x ns : List ℕ) → length x ≡ span r b → goodAfter r b (0 * r .width) x ≡ true → Goes rs (b ++ x) ns → Goes (r ∷ rs) b ns
+unfolding Good
+goes-more r rs b x ns l t g =
     let e : ns ≡ b ++ (x ++ g .more) = g .whole ∙ append-assoc b x (g .more) in
-    let t : take k ns ≡ b = ap (take k) e ∙ take-at b (x ++ g .more) k refl in
-    let s : span r (take k ns) ≡ length x = ap (span r) t ∙ sym (o .long) in
-    let p : length (b ++ x) ≡ k + span r (take k ns) = length-append b x ∙ ap (λ (m : ℕ). k + m) (sym s) in
+    let s = span-told r b x (g .more) ns l e in
     record {
       more = x ++ g .more;
       whole = e;
       good = (
-        omega (arith, s, ap length e, length-append b (x ++ g .more), length-append x (g .more)),
-        λ j h. at j (omega (arith, s, h)) e,
-        subst (λ (m : ℕ). Good rs m ns) p (g .good),
+        enough r b x (g .more) ns l e,
+        λ j h. each-good r b x (g .more) ns l e t j (subst (λ (m : ℕ). j < m) s h),
+        subst (λ (m : ℕ). Good rs m ns) (place-told r b x (g .more) ns l e) (g .good),
       );
-      cut =
-          o .cut (g .more)
-          ∙ (λ q. cutRow r (r .lines (sym t q)) k (sym e q) ++ g .cut q)
-          ∙ (λ q. cutRow r (r .lines (take k ns)) k ns ++ cutFrom rs (p q) ns);
     }
-  where
-    at : (j : ℕ) → j < length (o .x) → ns ≡ b ++ (o .x ++ g .more) → r .good (take (length b + j) ns) j (getD ns (length b + j) 0) ≡ true
-    at j h e =
-        let x = o .x in
-        let k = length b in
-        let z : 0 * r .width + j ≡ j = omega (arith, zero-mul (r .width)) in
-        let u : take (k + j) ns ≡ b ++ take j x =
-        take-add k j ns
-        ∙ (λ q. take k (e q) ++ take j (drop k (e q)))
-        ∙ (λ q. take-at b (x ++ g .more) k refl q ++ take j (drop-at b (x ++ g .more) k refl q))
-        ∙ ap (λ (y : List ℕ). b ++ y) (take-append-le j x (g .more) (omega arith)) in
-        let v : getD ns (k + j) 0 ≡ getD x j 0 = ap (λ (y : List ℕ). getD y (k + j) 0) e ∙ getD-append-add b (x ++ g .more) j 0 ∙ List·getD-append x (g .more) 0 j h in
-        (λ q. r .good (u q) (sym z q) (v q)) ∙ after-at r b (0 * r .width) x (o .good) j h
 
-pub rows-given : (rs : List Row) (b : List ℕ) (ls : List (List ℕ)) (ns : List ℕ) → taken (formFrom rs b) ls ≡ some ns → Given rs b ls ns
-unfolding formFrom taken Good cutFrom
-rows-given [] b [] ns e =
-    let q = Option·some-injective b ns e in
-    record { more = []; whole = sym q ∙ sym (append-nil b); good = ap length (sym q); cut = refl }
-rows-given [] b (l ∷ ls) ns e = absurd (Option·none-ne-some ns e)
-rows-given (r ∷ rs) b ls ns e =
-    let o = row-took r (formFrom rs) (r .lines b) 0 b ls ns e in
-    given-more r rs b ls ns o (rows-given rs (b ++ o .x) (o .after) ns (o .rest))
+-- and of its lines before theirs
+module _ (r : Row) (rs : List Row) (b x y t : List ℕ) (long : length x ≡ span r b) where
+  abbrev all : List ℕ
+  all = b ++ ((x ++ y) ++ t)
+
+  whole-told : all ≡ b ++ (x ++ (y ++ t))
+  whole-told = ap (λ (c : List ℕ). b ++ c) (append-assoc x y t)
+
+  onward : (b ++ x) ++ (y ++ t) ≡ all
+  onward = append-assoc b x (y ++ t) ∙ sym whole-told
+
+  abbrev place-is : length (b ++ x) ≡ length b + span r (take (length b) all)
+  place-is = place-told r b x (y ++ t) all long whole-told
+
+  cut-before :
+      (ls ms after : List (List ℕ)) → ls ≡ cutRow r (r .lines b) (length b) (b ++ (x ++ (y ++ t))) ++ ms
+      → ms ≡ cutFrom rs (length (b ++ x)) ((b ++ x) ++ (y ++ t)) ++ after → ls ≡ cutFrom (r ∷ rs) (length b) all ++ after
+  unfolding cutFrom
+  cut-before ls ms after p q =
+      let first = before-told r b x (y ++ t) all long whole-told in
+      let line = cutRow r (r .lines (take (length b) all)) (length b) all in
+      p ∙ (λ i. cutRow r (r .lines (sym first i)) (length b) (sym whole-told i) ++ (q ∙ (λ k. cutFrom rs (place-is k) (onward k) ++ after)) i)
+      ∙ sym (append-assoc line (cutFrom rs (length b + span r (take (length b) all)) all) after)
+
+  place-before :
+      placeAfter rs (length (b ++ x)) ((b ++ x) ++ (y ++ t)) ≡ length ((b ++ x) ++ y) → placeAfter (r ∷ rs) (length b) all ≡ length (b ++ (x ++ y))
+  unfolding placeAfter
+  place-before e = sym (λ i. placeAfter rs (place-is i) (onward i)) ∙ e ∙ ap length (append-assoc b x y)
+
+-- what rows took: their numbers, and the lines after them
+pub record RowsTook (rs : List Row) (next : List ℕ → Form (List ℕ)) (b : List ℕ) (ls : List (List ℕ)) (a : List ℕ) : Type 0 where
+  pub x : List ℕ
+  pub after : List (List ℕ)
+  pub goes : (rest : List Row) (ns : List ℕ) → Goes rest (b ++ x) ns → Goes (rs ++ rest) b ns
+  pub cut : (t : List ℕ) → ls ≡ cutFrom rs (length b) (b ++ (x ++ t)) ++ after
+  pub place : (t : List ℕ) → placeAfter rs (length b) (b ++ (x ++ t)) ≡ length (b ++ x)
+  pub rest : taken (next (b ++ x)) after ≡ some a
+
+pub rows-took :
+    (rs : List Row) (next : List ℕ → Form (List ℕ)) (b : List ℕ) (ls : List (List ℕ)) (a : List ℕ) → taken (rowsForm rs next b) ls ≡ some a
+    → RowsTook rs next b ls a
+unfolding rowsForm cutFrom placeAfter
+rows-took [] next b ls a e =
+    record {
+      x = [];
+      after = ls;
+      goes = λ rest ns g. subst (λ (c : List ℕ). Goes rest c ns) (append-nil b) g;
+      cut = λ t. refl;
+      place = λ t. ap length (sym (append-nil b));
+      rest = ap (λ (c : List ℕ). taken (next c) ls) (append-nil b) ∙ e;
+    }
+rows-took (r ∷ rs) next b ls a e =
+    let o = row-took r (rowsForm rs next) (r .lines b) 0 b ls a e in
+    let q = rows-took rs next (b ++ o .x) (o .after) a (o .rest) in
+    record {
+      x = o .x ++ q .x;
+      after = q .after;
+      goes = λ rest ns g.
+          goes-more r (rs ++ rest) b (o .x) ns (o .long) (o .good)
+          (q .goes rest ns (subst (λ (c : List ℕ). Goes rest c ns) (sym (append-assoc b (o .x) (q .x))) g));
+      cut = λ t. cut-before r rs b (o .x) (q .x) t (o .long) ls (o .after) (q .after) (o .cut (q .x ++ t)) (q .cut t);
+      place = λ t. place-before r rs b (o .x) (q .x) t (o .long) (q .place t);
+      rest = ap (λ (c : List ℕ). taken (next c) (q .after)) (sym (append-assoc b (o .x) (q .x))) ∙ q .rest;
+    }
 
 -- the text of numbers is their lines
 row-texts :
@@ -253,12 +335,50 @@ row-texts r next (suc n) i k ns ls =
     ∙ sym (append-assoc t (rowText r n (suc i) (k + w) ns) (joined (texts (next (take (k + w + n * w) ns)) ls)))
     ∙ ap (λ (m : ℕ). (t ++ rowText r n (suc i) (k + w) ns) ++ joined (texts (next (take m ns)) ls)) p
 
-pub rows-texts : (rs : List Row) (k : ℕ) (ns : List ℕ) → joined (texts (formFrom rs (take k ns)) (cutFrom rs k ns)) ≡ textFrom rs k ns
-unfolding formFrom cutFrom textFrom texts joined
-rows-texts [] k ns = refl
-rows-texts (r ∷ rs) k ns =
-    row-texts r (formFrom rs) (r .lines (take k ns)) 0 k ns (cutFrom rs (k + span r (take k ns)) ns)
-    ∙ ap (λ (x : List ℕ). rowText r (r .lines (take k ns)) 0 k ns ++ x) (rows-texts rs (k + span r (take k ns)) ns)
+pub rows-texts :
+    (rs : List Row) (next : List ℕ → Form (List ℕ)) (k : ℕ) (ns : List ℕ) (ls : List (List ℕ))
+    → joined (texts (rowsForm rs next (take k ns)) (cutFrom rs k ns ++ ls)) ≡ textFrom rs k ns ++ joined (texts (next (take (placeAfter rs k ns) ns)) ls)
+unfolding rowsForm cutFrom textFrom placeAfter
+rows-texts [] next k ns ls = refl
+rows-texts (r ∷ rs) next k ns ls =
+    let m = k + span r (take k ns) in
+    let first = cutRow r (r .lines (take k ns)) k ns in
+    let text = rowText r (r .lines (take k ns)) 0 k ns in
+    let end = joined (texts (next (take (placeAfter rs m ns) ns)) ls) in
+    ap (λ (l : List (List ℕ)). joined (texts (rowsForm (r ∷ rs) next (take k ns)) l)) (append-assoc first (cutFrom rs m ns) ls)
+    ∙ row-texts r (rowsForm rs next) (r .lines (take k ns)) 0 k ns (cutFrom rs m ns ++ ls)
+    ∙ ap (λ (x : List ℕ). text ++ x) (rows-texts rs next m ns ls)
+    ∙ sym (append-assoc text (textFrom rs m ns) end)
+
+-- the text of rows one after another
+pub text-split : (rs rest : List Row) (k : ℕ) (ns : List ℕ) → textFrom (rs ++ rest) k ns ≡ textFrom rs k ns ++ textFrom rest (placeAfter rs k ns) ns
+unfolding textFrom placeAfter
+text-split [] rest k ns = refl
+text-split (r ∷ rs) rest k ns =
+    let m = k + span r (take k ns) in
+    let text = rowText r (r .lines (take k ns)) 0 k ns in
+    ap (λ (x : List ℕ). text ++ x) (text-split rs rest m ns) ∙ sym (append-assoc text (textFrom rs m ns) (textFrom rest (placeAfter rs m ns) ns))
+
+-- the text of rows is told by their numbers alone, whatever stands behind them
+pub text-local :
+    (rs rest : List Row) (ns t : List ℕ) → Good (rs ++ rest) 0 ns → textFrom rs 0 (take (placeAfter rs 0 ns) ns ++ t) ≡ textFrom rs 0 ns
+unfolding texts joined taken
+text-local rs rest ns t g =
+    let p = placeAfter rs 0 ns in
+    let x = take p ns in
+    let ls = cutFrom rs 0 ns ++ [] in
+    let o = rows-took rs done [] ls x (rows-taken rest done rs 0 ns [] x g refl) in
+    let e = ended (o .x) (o .after) x (o .rest) in
+    let same : (u : List ℕ) → textFrom rs 0 (x ++ u) ≡ joined (texts (rowsForm rs done []) ls) =
+    λ u.
+    sym
+    (ap (λ (l : List (List ℕ)). joined (texts (rowsForm rs done []) l)) (o .cut u ∙ (λ i. cutFrom rs 0 (e .0 i ++ u) ++ e .1 i))
+    ∙ rows-texts rs done 0 (x ++ u) [] ∙ append-nil (textFrom rs 0 (x ++ u))) in
+    same t ∙ sym (same (drop p ns)) ∙ ap (textFrom rs 0) (take-append-drop p ns)
+  where
+    ended : (y : List ℕ) (ls : List (List ℕ)) (a : List ℕ) → taken (done y) ls ≡ some a → (y ≡ a) × (ls ≡ [])
+    ended y [] a h = (Option·some-injective y a h, refl)
+    ended y (l ∷ ls) a h = absurd (Option·none-ne-some a h)
 
 -- A row that can be carried on: its keys end no line, it has a number on each line, and one number is good at each of its places, whatever came before.
 pub record RowLive (r : Row) : Type 0 where
@@ -291,7 +411,105 @@ row-live r l next h (suc n) i b =
       onwards = λ x t. row-live r l next h n (suc i) (b ++ x);
     }
 
-pub rows-live : (rs : List Row) → RowsLive rs → (b : List ℕ) → Live (formFrom rs b)
-unfolding formFrom Live RowsLive
-rows-live [] l b = tt
-rows-live (r ∷ rs) l b = row-live r (l .0) (formFrom rs) (rows-live rs (l .1)) (r .lines b) 0 b
+pub rows-live :
+    (rs : List Row) → RowsLive rs → (next : List ℕ → Form (List ℕ)) → ((b : List ℕ) → Live (next b)) → (b : List ℕ) → Live (rowsForm rs next b)
+unfolding rowsForm RowsLive
+rows-live [] l next h b = h b
+rows-live (r ∷ rs) l next h b = row-live r (l .0) (rowsForm rs next) (rows-live rs (l .1) next h) (r .lines b) 0 b
+
+-- Rows whose numbers may be 0, whatever came before.
+unfoldable pub RowsZero : List Row → Type 0
+RowsZero [] = Unit {0}
+RowsZero (r ∷ rs) = ((b : List ℕ) (j : ℕ) → r .good b j 0 ≡ true) × RowsZero rs
+
+zeros-after : (r : Row) → ((b : List ℕ) (j : ℕ) → r .good b j 0 ≡ true) → (b : List ℕ) (j n : ℕ) → goodAfter r b j (replicate n 0) ≡ true
+unfolding goodAfter
+zeros-after r z b j zero = refl
+zeros-after r z b j (suc n) = both-true (z b j) (zeros-after r z (b ++ (0 ∷ [])) (suc j) n)
+
+zeros-go : (rs : List Row) → RowsZero rs → (b : List ℕ) → Goes rs b (b ++ zerosAfter rs b)
+unfolding RowsZero zerosAfter
+zeros-go [] z b = subst (Goes [] b) (sym (append-nil b)) (goes-none b)
+zeros-go (r ∷ rs) z b =
+    let x : List ℕ = replicate (span r b) 0 in
+    goes-more r rs b x (b ++ (x ++ zerosAfter rs (b ++ x))) (length-replicate (span r b) 0) (zeros-after r (z .0) b (0 * r .width) (span r b))
+    (subst (Goes rs (b ++ x)) (append-assoc b x (zerosAfter rs (b ++ x))) (zeros-go rs (z .1) (b ++ x)))
+
+-- Groups of rows that a text may lack.
+unfoldable pub GroupsLive : List (List Row) → Type 0
+GroupsLive [] = Unit {0}
+GroupsLive (g ∷ gs) = RowsLive g × GroupsLive gs
+
+pub groups-live : (gs : List (List Row)) → GroupsLive gs → (b : List ℕ) → Live (groupsForm gs b)
+unfolding groupsForm GroupsLive Live
+groups-live [] l b = tt
+groups-live (g ∷ gs) l b = rows-live g (l .0) (groupsForm gs) (groups-live gs (l .1)) b
+
+-- the lines of numbers from place k on: none where all of them are 0 and a group begins; else those of the group, and of the groups after it
+unfoldable pub GroupLines : List (List Row) → ℕ → List ℕ → List (List ℕ) → Type 0
+GroupLines [] k ns ls = ls ≡ []
+GroupLines (g ∷ gs) k ns ls =
+    ((ls ≡ []) × (ns ≡ take k ns ++ zerosAfter (inGroups (g ∷ gs)) (take k ns)))
+    ⊎ ((ls ≡ [] → ⊥) × (after : List (List ℕ)) × (ls ≡ cutFrom g k ns ++ after) × GroupLines gs (placeAfter g k ns) ns after)
+
+taken-on : (a : List ℕ) (f : Form (List ℕ)) (ls : List (List ℕ)) (c : List ℕ) → (ls ≡ [] → ⊥) → taken f ls ≡ some c → taken (mayEnd a f) ls ≡ some c
+unfolding taken
+taken-on a f [] c n e = absurd (n refl)
+taken-on a f (l ∷ ls) c n e = e
+
+pub groups-taken :
+    (gs : List (List Row)) (k : ℕ) (ns : List ℕ) (ls : List (List ℕ)) → Good (inGroups gs) k ns → GroupLines gs k ns ls
+    → taken (groupsForm gs (take k ns)) ls ≡ some ns
+unfolding groupsForm GroupLines Good taken
+groups-taken [] k ns ls g e = ap (taken (done (take k ns))) e ∙ ap some (take-all k ns (omega (arith, g)))
+groups-taken (g ∷ gs) k ns ls h lines =
+    ⊎-elim
+    (λ w. ap (taken (groupsForm (g ∷ gs) (take k ns))) (w .0) ∙ ap some (sym (w .1)))
+    (λ w.
+    taken-on (take k ns ++ zerosAfter (inGroups (g ∷ gs)) (take k ns)) (rowsForm g (groupsForm gs) (take k ns)) ls ns (w .0)
+    (ap (taken (rowsForm g (groupsForm gs) (take k ns))) (w .2)
+    ∙ rows-taken (inGroups gs) (groupsForm gs) g k ns (w .1) ns h
+    (groups-taken gs (placeAfter g k ns) ns (w .1) (good-rest g (inGroups gs) k ns h) (w .3))))
+    lines
+
+-- what the form of groups took: numbers that go on from those before, good by the rows, and their lines
+pub record GroupsGiven (gs : List (List Row)) (b : List ℕ) (ls : List (List ℕ)) (ns : List ℕ) : Type 0 where
+  pub goes : Goes (inGroups gs) b ns
+  pub lines : GroupLines gs (length b) ns ls
+
+zero-rest : (g rs : List Row) → RowsZero (g ++ rs) → RowsZero rs
+unfolding RowsZero
+zero-rest [] rs z = z
+zero-rest (r ∷ g) rs z = zero-rest g rs (z .1)
+
+pub groups-given :
+    (gs : List (List Row)) → RowsZero (inGroups gs) → (b : List ℕ) (ls : List (List ℕ)) (ns : List ℕ) → taken (groupsForm gs b) ls ≡ some ns
+    → GroupsGiven gs b ls ns
+unfolding groupsForm taken GroupLines
+groups-given [] z b [] ns e =
+    record { goes = subst (Goes [] b) (Option·some-injective b ns e) (goes-none b); lines = refl }
+groups-given [] z b (l ∷ ls) ns e = absurd (Option·none-ne-some ns e)
+groups-given (g ∷ gs) z b [] ns e =
+    let x = zerosAfter (inGroups (g ∷ gs)) b in
+    let q = Option·some-injective (b ++ x) ns e in
+    let t : take (length b) ns ≡ b = ap (take (length b)) (sym q) ∙ take-at b x (length b) refl in
+    record {
+      goes = subst (Goes (inGroups (g ∷ gs)) b) q (zeros-go (inGroups (g ∷ gs)) z b);
+      lines = inl (refl, sym q ∙ (λ i. sym t i ++ zerosAfter (inGroups (g ∷ gs)) (sym t i)));
+    }
+groups-given (g ∷ gs) z b (l ∷ ls) ns e =
+    let o = rows-took g (groupsForm gs) b (l ∷ ls) ns e in
+    let r = groups-given gs (zero-rest g (inGroups gs) z) (b ++ o .x) (o .after) ns (o .rest) in
+    let w : ns ≡ b ++ (o .x ++ r .goes .more) = r .goes .whole ∙ append-assoc b (o .x) (r .goes .more) in
+    record {
+      goes = o .goes (inGroups gs) ns (r .goes);
+      lines =
+          inr (
+            cons-ne-nil l ls,
+            o .after,
+            o .cut (r .goes .more) ∙ (λ i. cutFrom g (length b) (sym w i) ++ o .after),
+            subst (λ (k : ℕ). GroupLines gs k ns (o .after))
+                (sym (o .place (r .goes .more)) ∙ (λ i. placeAfter g (length b) (sym w i)))
+                (r .lines),
+          );
+    }

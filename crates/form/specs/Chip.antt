@@ -7,6 +7,7 @@ use mathlib.Core.List.{List, [], _∷_, _++_}
 use lib.Dec.{eqb}
 use lib.ListN.{take, drop, getD}
 use Rattle.base.specs.Words.{flag}
+use Rattle.events.specs.declared.Events.{Events}
 use Rattle.record.specs.declared.Counters.{Counters}
 use Rattle.record.specs.declared.Device.{Device}
 use Rattle.record.specs.declared.Guard.{Guard}
@@ -17,7 +18,7 @@ use Rattle.record.specs.Numbers.{protectionNumber, protectionOf, lockNumber, lo
 use Rattle.record.specs.Part.{isPart, sizeOf, idSize}
 use Rattle.record.specs.World.{World, world, Sized, Shaped}
 use Rattle.refusals.specs.InRange.{InRange}
-use Rattle.form.specs.Table.{recordRows, rows, partIn, powerIn, stageIn, Good, goodTest, textFrom}
+use Rattle.form.specs.Table.{olderRows, rows, stateRows, chipEvents, stateEvents, partIn, powerIn, stageIn, Good, goodTest, textFrom}
 
 -- S1. The numbers of a record between SRAM and page load, and after it.
 abbrev pub countNumbers : Counters → List ℕ
@@ -46,17 +47,24 @@ abbrev pub numbersBefore : ℕ → Device → List ℕ → List ℕ
 numbersBefore part d rest =
     part ∷ (d .regs ++ (d .sram ++ (headNumbers d ++ (d .load .bytes ++ (tailNumbers (d .load) (d .cycle) ++ rest)))))
 
--- S1. behind them stand the memories
+-- S1. the event inputs: levels of EVLS and EVHS, edges, ticks since the first, debounce ticks left
+abbrev pub eventNumbers : Events → List ℕ
+eventNumbers e = e .door ∷ e .drum ∷ e .edges ∷ e .since ∷ e .debounce ∷ []
+
+-- S1. behind them stand the memories, and the event inputs
 unfoldable pub numbersOf : ℕ → World → List ℕ
-numbersOf part w = numbersBefore part (w .device) (w .eeprom ++ w .id)
+numbersOf part w = numbersBefore part (w .device) (w .eeprom ++ (w .id ++ eventNumbers (w .device .events)))
 
--- I1. nothing stands behind them
+-- I1. the event inputs alone
 unfoldable pub stateNumbers : ℕ → Device → List ℕ
-stateNumbers part d = numbersBefore part d []
+stateNumbers part d = numbersBefore part d (eventNumbers (d .events))
 
--- S8. The chip of a list of numbers; its part is the first.
-abbrev pub deviceOf : List ℕ → Device
-deviceOf ns =
+-- S8. The chip of a list of numbers, whose event inputs begin at a place; its part is the first.
+abbrev pub eventsOf : ℕ → List ℕ → Events
+eventsOf k ns = record { door = getD ns k 0; drum = getD ns (k + 1) 0; edges = getD ns (k + 2) 0; since = getD ns (k + 3) 0; debounce = getD ns (k + 4) 0 }
+
+abbrev pub deviceFrom : ℕ → List ℕ → Device
+deviceFrom k ns =
     record {
       regs = take 32 (drop 1 ns);
       sram = take 64 (drop 33 ns);
@@ -67,10 +75,15 @@ deviceOf ns =
       frame = record { stage = stageIn ns };
       load = record { offsets = getD ns 110 0; bytes = take 8 (drop 111 ns); next = getD ns 119 0 };
       cycle = record { target = targetOf (getD ns 120 0) (getD ns 121 0); left = getD ns 122 0 };
+      events = eventsOf k ns;
     }
 
 unfoldable pub worldOf : List ℕ → World
-worldOf ns = world (deviceOf ns) (take (sizeOf (partIn ns)) (drop 123 ns)) (take idSize (drop (123 + sizeOf (partIn ns)) ns))
+worldOf ns = world (deviceFrom (chipEvents ns) ns) (take (sizeOf (partIn ns)) (drop 123 ns)) (take idSize (drop (123 + sizeOf (partIn ns)) ns))
+
+-- I1. and the record of a state array's
+abbrev pub deviceOf : List ℕ → Device
+deviceOf ns = deviceFrom (stateEvents ns) ns
 
 -- S7. a list of numbers that the table has for a chip
 abbrev pub IsChip : List ℕ → Type 0
@@ -78,7 +91,7 @@ IsChip ns = Good rows 0 ns
 
 -- S7, I1. and one that it has for part and record alone
 unfoldable pub isRecord : List ℕ → Bool
-isRecord ns = goodTest recordRows 0 ns
+isRecord ns = goodTest stateRows 0 ns
 
 -- S2. the saved text of a list of numbers, and of a chip
 unfoldable pub formText : List ℕ → List ℕ
@@ -86,6 +99,10 @@ formText ns = textFrom rows 0 ns
 
 abbrev pub savedText : ℕ → World → List ℕ
 savedText part w = formText (numbersOf part w)
+
+-- S11. and its text in the older form, which ends before the event inputs
+abbrev pub olderText : ℕ → World → List ℕ
+olderText part w = textFrom olderRows 0 (numbersOf part w)
 
 -- S7. A chip in range: a part there is, a record that number 6 does not refuse, memories of the part's lengths; bytes where code holds bytes. The range has those of the
 -- registers; a clock address and a second byte are the stage's value.

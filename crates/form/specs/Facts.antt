@@ -7,8 +7,8 @@ use mathlib.Core.List.{List}
 use lib.Bits.{bitAnd}
 use lib.ListN.{length, getD}
 use Rattle.record.specs.Part.{isPart, sizeOf, idSize}
-use Rattle.record.specs.Registers.{kept, dividerTicks, longPulse, delayTicks}
-use Rattle.form.specs.Table.{partIn, registerIn, startupLimit, watchdogLimit, markLimit, kindLimit, caseGood, valueLimit, targetLimit, leftLimit}
+use Rattle.record.specs.Registers.{eventAt, kept, dividerTicks, longPulse, delayTicks}
+use Rattle.form.specs.Table.{partIn, registerIn, chipEvents, startupLimit, watchdogLimit, markLimit, kindLimit, caseGood, valueLimit, targetLimit, leftLimit, edgesBy, sinceBy, debounceBy}
 
 -- from place k on, so many numbers are bytes
 abbrev pub BytesFrom : List ℕ → ℕ → ℕ → Type 0
@@ -41,9 +41,29 @@ pub record RecordFacts (ns : List ℕ) : Type 0 where
   pub place : getD ns 121 0 < targetLimit (sizeOf (partIn ns)) (getD ns 120 0)
   pub left : getD ns 122 0 < leftLimit ns
 
--- of a whole list
-pub record Facts (ns : List ℕ) : Type 0 where
+-- of the event inputs, from their first place on
+pub record EventFacts (k : ℕ) (ns : List ℕ) : Type 0 where
+  pub door : getD ns k 0 < 2
+  pub drum : getD ns (k + 1) 0 < 2
+  pub edges : getD ns (k + 2) 0 < edgesBy (registerIn ns eventAt)
+  pub since : getD ns (k + 3) 0 < sinceBy (getD ns (k + 2) 0)
+  pub debounce : getD ns (k + 4) 0 < debounceBy (registerIn ns eventAt) (getD ns k 0)
+
+-- of a state array's list
+pub record StateFacts (ns : List ℕ) : Type 0 where
   pub first : RecordFacts ns
-  pub long : length ns ≡ 123 + sizeOf (partIn ns) + idSize
+  pub long : length ns ≡ 128
+  pub events : EventFacts 123 ns
+
+-- of part, record and memories, whatever stands behind them
+pub record MemoryFacts (ns : List ℕ) : Type 0 where
+  pub first : RecordFacts ns
+  pub reach : chipEvents ns ≤ length ns
   pub eeprom : BytesFrom ns 123 (sizeOf (partIn ns))
   pub id : BytesFrom ns (123 + sizeOf (partIn ns)) idSize
+
+-- of a whole list
+pub record Facts (ns : List ℕ) : Type 0 where
+  pub chip : MemoryFacts ns
+  pub long : length ns ≡ chipEvents ns + 5
+  pub events : EventFacts (chipEvents ns) ns

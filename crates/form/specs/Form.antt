@@ -1,5 +1,5 @@
 -- A saved form, whatever it saves: lines in an order, where the lines read so far tell which line comes next and which numbers are good for it, and,
--- after the last, what was read. With it the words for a text: it saves a value, its lines begin something that is saved, its first bad line.
+-- after the last, what was read. At a place it may end before its last line. With it the words for a text: it saves a value, its lines begin something that is saved, its first bad line.
 -- Assumes nothing.
 use Prim.Native.Nat.{ℕ, suc, _<_}
 use mathlib.Core.Path.{_≡_}
@@ -11,10 +11,11 @@ use lib.ListN.{length, take}
 use Rattle.base.specs.Words.{pick}
 use Rattle.form.specs.Lines.{lineText, readLine, linesIn, joined, unbroken}
 
--- a line: its key, the test of its numbers, and the form after it, by its numbers
+-- a line: its key, the test of its numbers, and the form after it, by its numbers; S11. it may end here, and then stands for this, or goes on
 pub data Form (A : Type 0) : Type 0 where
   done : A → Form A
   line : List ℕ → (List ℕ → Bool) → (List ℕ → Form A) → Form A
+  mayEnd : A → Form A → Form A
 
 -- what the numbers of all lines, a list for each line, stand for; none where a test refuses them
 unfoldable pub taken : {A : Type 0} → Form A → List (List ℕ) → Option A
@@ -22,12 +23,15 @@ taken (done a) [] = some a
 taken (done a) (x ∷ xs) = none
 taken (line key test next) [] = none
 taken (line key test next) (x ∷ xs) = pick (test x) (taken (next x) xs) none
+taken (mayEnd a f) [] = some a
+taken (mayEnd a f) (x ∷ xs) = taken f (x ∷ xs)
 
 -- their lines
 unfoldable pub texts : {A : Type 0} → Form A → List (List ℕ) → List (List ℕ)
 texts (done a) xs = []
 texts (line key test next) [] = []
 texts (line key test next) (x ∷ xs) = lineText key x ∷ texts (next x) xs
+texts (mayEnd a f) xs = texts f xs
 
 -- what a file gives: what was saved, or the number of the first bad line, from 1
 pub data Loaded (A : Type 0) : Type 0 where
@@ -48,6 +52,8 @@ judged (done a) [] = loaded a
 judged (done a) (p ∷ ps) = bad 1
 judged (line key test next) [] = bad 1
 judged (line key test next) (p ∷ ps) = onLine (readLine key p) test (λ (x : List ℕ). judged (next x) ps)
+judged (mayEnd a f) [] = loaded a
+judged (mayEnd a f) (p ∷ ps) = judged f (p ∷ ps)
 
 -- a text loaded
 unfoldable pub load : {A : Type 0} → Form A → List ℕ → Loaded A
@@ -82,6 +88,7 @@ pub record Lively (key : List ℕ) (test : List ℕ → Bool) (Next : List ℕ �
 unfoldable pub Live : {A : Type 0} → Form A → Type 0
 Live (done a) = Unit {0}
 Live (line key test next) = Lively key test (λ (x : List ℕ). Live (next x))
+Live (mayEnd a f) = Live f
 
 -- this text saves this value
 pub record Saved {A : Type 0} (f : Form A) (text : List ℕ) (a : A) : Type 0 where

@@ -2,13 +2,14 @@
 -- their numbers may be, is Form's and Table's.
 -- Assumes nothing.
 use Prim.Native.Nat.{ℕ}
+use Prim.Native.String.{String}
 use mathlib.Core.Bool.{Bool, true, false, not, _&&_}
 use mathlib.Core.List.{List, [], _∷_, _++_}
 use mathlib.Core.Option.{Option, none, some}
 use lib.Dec.{ltb, eqb}
 use lib.ListN.{length, drop}
 use Rattle.base.specs.Words.{pick}
-use Rattle.text.specs.Bytes.{begins, digit, newline}
+use Rattle.text.specs.Bytes.{bytesOf, begins, digit, newline}
 use Rattle.text.specs.Decimal.{needlessZero, valueOf, decimalText}
 
 abbrev pub equals : ℕ
@@ -75,6 +76,11 @@ linesIn (b ∷ s) = pick (eqb b newline) ((b ∷ []) ∷ linesIn s) (onto b (lin
 unfoldable pub joined : List (List ℕ) → List ℕ
 joined [] = []
 joined (p ∷ ps) = p ++ joined ps
+
+-- texts as lines, a newline after each
+abbrev pub lined : List String → List ℕ
+lined [] = []
+lined (l ∷ ls) = bytesOf l ++ (newline ∷ lined ls)
 
 -- no newline in it
 unfoldable pub unbroken : List ℕ → Bool

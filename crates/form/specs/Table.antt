@@ -8,18 +8,19 @@ use mathlib.Core.Bool.{Bool, true, false, not, _&&_, _||_}
 use mathlib.Core.List.{List, [], _∷_, _++_}
 use lib.Dec.{ltb, leb, eqb}
 use lib.Bits.{bitAnd}
-use lib.ListN.{length, take, drop, getD}
+use lib.ListN.{length, take, drop, getD, replicate}
 use Rattle.base.specs.Words.{pick, bit, every}
+use Rattle.events.specs.Control.{even1, even0, numberOf, debounceOf, windowTicks}
 use Rattle.record.specs.declared.Stage.{Stage}
 use Rattle.record.specs.Codes.{codeOf, codeNumber}
 use Rattle.record.specs.Numbers.{stageOf}
 use Rattle.record.specs.Part.{isPart, sizeOf, idSize, bootsOf}
-use Rattle.record.specs.Registers.{secondsAt, watchdogAt, kept, periodOf, cycleTicks, startupTicks, dividerTicks, longPulse, delayTicks}
+use Rattle.record.specs.Registers.{secondsAt, watchdogAt, eventAt, kept, periodOf, cycleTicks, startupTicks, dividerTicks, longPulse, delayTicks}
 use Rattle.record.specs.Stages.{foreignToWip}
 use Rattle.text.specs.Bytes.{bytesOf}
 use Rattle.text.specs.Decimal.{decimalText}
 use Rattle.form.specs.Lines.{lineText}
-use Rattle.form.specs.Form.{Form, done, line}
+use Rattle.form.specs.Form.{Form, done, line, mayEnd}
 
 -- A row: its key; whether the key has the line's number after it; how many lines it has, by the numbers before them; how many numbers are on a line; and
 -- whether a number is good as number j of the row, by those before it.
@@ -42,6 +43,13 @@ powerIn b = eqb (getD b 102 0) 1
 
 abbrev pub stageIn : List ℕ → Stage
 stageIn b = stageOf (getD b 107 0) (getD b 108 0) (getD b 109 0)
+
+-- S1, I1. The first place of the event inputs: behind the memories in a chip's list, behind the record in that of a state array.
+abbrev pub chipEvents : List ℕ → ℕ
+chipEvents b = 123 + sizeOf (partIn b) + idSize
+
+abbrev pub stateEvents : List ℕ → ℕ
+stateEvents b = 123
 
 -- How many values a number may have, from 0, where that depends on others.
 
@@ -97,6 +105,18 @@ leftBy power foreign = pick (power && not foreign) (suc cycleTicks) 1
 
 abbrev pub leftLimit : List ℕ → ℕ
 leftLimit b = leftBy (powerIn b) (foreignToWip (stageIn b))
+
+-- S12. edges counted: fewer than 0Bh sets, and none with EVEN1 clear
+abbrev pub edgesBy : ℕ → ℕ
+edgesBy v = pick (even1 v) (numberOf v) 1
+
+-- S12. the ticks since the first of them: none where no edge is counted
+abbrev pub sinceBy : ℕ → ℕ
+sinceBy edges = pick (ltb 0 edges) (suc windowTicks) 1
+
+-- S12. the debounce ticks left: at most what 0Bh sets, and none with EVEN0 clear or EVLS low
+abbrev pub debounceBy : ℕ → ℕ → ℕ
+debounceBy v level = pick (even0 v && ltb 0 level) (suc (debounceOf v)) 1
 
 -- S3. a register's byte: no bit outside its mask
 abbrev pub registerGood : ℕ → ℕ → Bool
@@ -185,7 +205,23 @@ eepromRow = memoryRow "ee" (λ b. sizeOf (partIn b) / 8)
 unfoldable pub idRow : Row
 idRow = memoryRow "id" (λ b. 2)
 
--- S1. those of part and record, and those of the memories
+-- S12. the event inputs, from their first place on
+unfoldable pub evlsRow : Row
+evlsRow = row "evls" (λ b. 2)
+
+unfoldable pub evhsRow : Row
+evhsRow = row "evhs" (λ b. 2)
+
+unfoldable pub edgesRow : Row
+edgesRow = row "edges" (λ b. edgesBy (registerIn b eventAt))
+
+unfoldable pub sinceRow : (List ℕ → ℕ) → Row
+sinceRow place = row "since" (λ b. sinceBy (getD b (place b + 2) 0))
+
+unfoldable pub debounceRow : (List ℕ → ℕ) → Row
+debounceRow place = row "debounce" (λ b. debounceBy (registerIn b eventAt) (getD b (place b) 0))
+
+-- S1. those of part and record, of the memories, and of the event inputs
 abbrev pub recordRows : List Row
 recordRows =
     partRow ∷ registerRow ∷ sramRow ∷ dividerRow ∷ startupRow ∷ watchdogRow ∷ delayRow ∷ pulseRow ∷ powerRow ∷ markRow ∷ welRow ∷ protectionRow ∷ lockRow
@@ -194,8 +230,27 @@ recordRows =
 abbrev pub memoryRows : List Row
 memoryRows = eepromRow ∷ idRow ∷ []
 
+abbrev pub eventRows : (List ℕ → ℕ) → List Row
+eventRows place = evlsRow ∷ evhsRow ∷ edgesRow ∷ sinceRow place ∷ debounceRow place ∷ []
+
+-- S11. the rows that every text has, and the groups of rows that one may lack: it ends before one of them
+abbrev pub olderRows : List Row
+olderRows = recordRows ++ memoryRows
+
+abbrev pub laterGroups : List (List Row)
+laterGroups = eventRows chipEvents ∷ []
+
+-- the rows of groups
+abbrev pub inGroups : List (List Row) → List Row
+inGroups [] = []
+inGroups (g ∷ gs) = g ++ inGroups gs
+
 unfoldable pub rows : List Row
-rows = recordRows ++ memoryRows
+rows = olderRows ++ inGroups laterGroups
+
+-- I1. those of a state array
+abbrev pub stateRows : List Row
+stateRows = recordRows ++ eventRows stateEvents
 
 -- S2. the key of line i of a row
 abbrev pub keyOf : Row → ℕ → List ℕ
@@ -247,10 +302,21 @@ unfoldable pub rowForm : Row → ℕ → ℕ → List ℕ → (List ℕ → Form
 rowForm r zero i b next = next b
 rowForm r (suc n) i b next = line (keyOf r i) (lineGood r i b) (λ x. rowForm r n (suc i) (b ++ x) next)
 
-unfoldable pub formFrom : List Row → List ℕ → Form (List ℕ)
-formFrom [] b = done b
-formFrom (r ∷ rs) b = rowForm r (r .lines b) 0 b (formFrom rs)
+-- rows, and the form after them
+unfoldable pub rowsForm : List Row → (List ℕ → Form (List ℕ)) → List ℕ → Form (List ℕ)
+rowsForm [] next b = next b
+rowsForm (r ∷ rs) next b = rowForm r (r .lines b) 0 b (rowsForm rs next)
+
+-- as many numbers 0 as rows have after those before
+unfoldable pub zerosAfter : List Row → List ℕ → List ℕ
+zerosAfter [] b = []
+zerosAfter (r ∷ rs) b = replicate (span r b) 0 ++ zerosAfter rs (b ++ replicate (span r b) 0)
+
+-- S11. Groups of rows: a text may end before each; the numbers of that group and of those behind it are then 0.
+unfoldable pub groupsForm : List (List Row) → List ℕ → Form (List ℕ)
+groupsForm [] b = done b
+groupsForm (g ∷ gs) b = mayEnd (b ++ zerosAfter (inGroups (g ∷ gs)) b) (rowsForm g (groupsForm gs) b)
 
 -- S1. the form of a chip
 unfoldable pub chipForm : Form (List ℕ)
-chipForm = formFrom rows []
+chipForm = rowsForm olderRows (groupsForm laterGroups) []

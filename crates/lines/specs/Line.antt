@@ -7,7 +7,8 @@ use mathlib.Core.Bool.{Bool, _&&_, _||_}
 use mathlib.Core.List.{List, [], _∷_}
 use lib.Dec.{ltb, eqb}
 use lib.ListN.{length, take, drop}
-use Rattle.record.specs.declared.Act.the-variants.{Select, Byte, End, Wait, Cut, Up}
+use Rattle.record.specs.declared.Act.the-variants.{Select, Byte, End, Wait, Cut, Up, Set}
+use Rattle.record.specs.declared.Pin.the-variants.{Evls, Evhs}
 use Rattle.text.specs.Bytes.{bytesOf, begins, leading, letter, digit, chosen}
 use Rattle.text.specs.Decimal.{needlessZero}
 use Rattle.lines.specs.declared.Name.{Name}
@@ -52,7 +53,7 @@ inForm line =
     && ltb 0 (length (digitsText line))
     && eqb (leading digit (digitsText line)) (length (digitsText line))
 
--- T4. A name is `part` or that of an act.
+-- T4, V1. A name is `part` or that of an act.
 abbrev pub names : List (String × Name)
 names =
     ("part", PartName)
@@ -62,6 +63,8 @@ names =
     ∷ ("wait", ActName Wait)
     ∷ ("cut", ActName Cut)
     ∷ ("up", ActName Up)
+    ∷ ("evls", ActName (Set Evls))
+    ∷ ("evhs", ActName (Set Evhs))
     ∷ []
 
 unfoldable pub nameOf : List ℕ → Name

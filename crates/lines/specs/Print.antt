@@ -6,7 +6,7 @@ use mathlib.Core.List.{List, [], _∷_, _++_}
 use lib.Dec.{eqb}
 use Rattle.base.specs.Words.{pick, flag}
 use Rattle.record.specs.declared.Act.{Act}
-use Rattle.record.specs.declared.Act.the-variants.{Select, Byte, End, Wait, Cut, Up}
+use Rattle.record.specs.declared.Act.the-variants.{Select, Byte, End, Wait, Cut, Up, Set}
 use Rattle.record.specs.declared.Reply.{Reply}
 use Rattle.record.specs.declared.Reply.the-variants.{Driven, Off}
 use Rattle.text.specs.Bytes.{bytesOf, newline}
@@ -32,6 +32,7 @@ showsCount End = false
 showsCount Wait = true
 showsCount Cut = true
 showsCount Up = false
+showsCount (Set p) = false
 
 -- T8, A34. An act that is done shows its count or its reply; a refused one shows none.
 abbrev pub outOf : ℕ → Act → Reply → ℕ → Out

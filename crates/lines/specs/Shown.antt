@@ -4,7 +4,8 @@
 use Prim.Native.String.{String}
 use mathlib.Core.Path.{_≡_, refl}
 use mathlib.Core.Bool.{true, false}
-use Rattle.record.specs.declared.Act.the-variants.{Select, Byte, End, Wait, Cut, Up}
+use Rattle.record.specs.declared.Act.the-variants.{Select, Byte, End, Wait, Cut, Up, Set}
+use Rattle.record.specs.declared.Pin.the-variants.{Evls, Evhs}
 use Rattle.record.specs.declared.Reply.the-variants.{Driven, Off}
 use Rattle.text.specs.Bytes.{bytesOf, agreed, leading, chosen}
 use Rattle.text.specs.Decimal.{valueFrom, textWithin, decimalText}
@@ -29,6 +30,8 @@ LinesShown =
     × Asks "op=wait arg=200" (ActLine Wait 200)
     × Asks "op=cut arg=3" (ActLine Cut 3)
     × Asks "op=up arg=0" (ActLine Up 0)
+    × Asks "op=evls arg=1" (ActLine (Set Evls) 1)
+    × Asks "op=evhs arg=2" (ActLine (Set Evhs) 2)
     × Asks "op=ups arg=0" Bad
     -- T2. eight digits and nine, a 0 alone and in front
     × Asks "op=wait arg=16777217" (ActLine Wait 16777217)
@@ -57,4 +60,4 @@ LinesShown =
 
 pub lines-shown : LinesShown
 unfolding LinesShown requestOf badLine nameSize digitsText inForm nameOf chosen agreed leading valueFrom answerLine answerChars fieldsText decimalText textWithin
-lines-shown = (refl, refl, refl, refl, refl, refl, refl, refl, refl, refl, refl, refl, refl, refl, refl, refl, refl, refl, refl, refl, refl, refl, refl, refl, refl, refl, refl, refl)
+lines-shown = (refl, refl, refl, refl, refl, refl, refl, refl, refl, refl, refl, refl, refl, refl, refl, refl, refl, refl, refl, refl, refl, refl, refl, refl, refl, refl, refl, refl, refl, refl)

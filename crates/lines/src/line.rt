@@ -2,6 +2,7 @@
 use crate::Name;
 use crate::Request;
 use record::Act;
+use record::Pin;
 use text::Kind;
 use text::bytes;
 use text::decimal;
@@ -73,6 +74,8 @@ fn name_of(s: &[u8]) -> Name
     ensures { λ r. ⌜ r ≡ nameOf (now (s .entry)) ⌝ }
 {
     let mut name = Name::Unknown;
+    name = choose(b"evhs", s, Name::ActName(Act::Set(Pin::Evhs)), name);
+    name = choose(b"evls", s, Name::ActName(Act::Set(Pin::Evls)), name);
     name = choose(b"up", s, Name::ActName(Act::Up), name);
     name = choose(b"cut", s, Name::ActName(Act::Cut), name);
     name = choose(b"wait", s, Name::ActName(Act::Wait), name);

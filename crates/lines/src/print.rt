@@ -25,6 +25,7 @@ fn shows_count(act: Act) -> bool
         Act::Wait => true,
         Act::Cut => true,
         Act::Up => false,
+        Act::Set(_) => false,
     }
 }
 

@@ -66,10 +66,13 @@ fn print_acts() -> bool {
     end     0 to 7         CS rises, after so many bits of a byte not finished;
                            those that had left SO are its reply
     wait    0 to 16777216  so many ticks of 1/32768 s pass, or fewer: it stops
-                           after the first that changes IRQ, WDO or WIP
+                           after the first that changes IRQ, WDO, WIP or an
+                           event's flag
     cut     0 to 255       power fails; of a page being written, the offsets
                            whose bit is set got stored
     up      0              power comes back
+    evls    0 or 1         the level of EVLS, the low-speed event input
+    evhs    0 or 1         the level of EVHS, the high-speed event input
 ",
     )
 }

@@ -3,7 +3,7 @@
 use mathlib.Core.Path.{_≡_, refl, sym, ap, subst, _∙_}
 use mathlib.Core.Bool.{true, false, not, _&&_, _||_}
 use mathlib.Core.List.{List, [], _∷_, _++_, append-assoc}
-use Prim.Native.Nat.{ℕ, _+_, _-_, _<_, _≤_}
+use Prim.Native.Nat.{ℕ, suc, _+_, _-_, _<_, _≤_}
 use native.Mathlib.Omega.{arith}
 use borrow.Author.Tests.{ltb-true, ltb-false}
 use lib.Dec.{ltb, eqb}
@@ -13,17 +13,19 @@ use native.Mathlib.Numerals.{add-one}
 use Rattle.base.specs.Words.{pick, bit, every}
 use Rattle.base.proofs.Tests.{by-cases, pick-case, both-left}
 use Rattle.base.proofs.Every.{bound-below}
+use Rattle.events.specs.Control.{even1, even0}
 use Rattle.record.specs.Codes.{codeOf, codeNumber}
 use Rattle.record.specs.Part.{sizeOf, bootsOf}
 use Rattle.record.specs.Stages.{foreignToWip}
-use Rattle.record.specs.Registers.{secondsAt, watchdogAt, periodOf}
+use Rattle.record.specs.Registers.{secondsAt, watchdogAt, eventAt, periodOf}
 use Rattle.record.proofs.PartLaws.{size-most}
 use Rattle.record.proofs.PeriodLaws.{period-most}
 use Rattle.form.specs.Table.{partIn, registerIn, powerIn, stageIn, caseLimit}
 use Rattle.record.specs.declared.Device.{Device}
 use Rattle.record.specs.World.{world}
-use Rattle.form.specs.Chip.{headNumbers, tailNumbers, recordNumbers, numbersOf}
-use Rattle.form.specs.Facts.{BytesFrom, RecordFacts}
+use Rattle.form.specs.Chip.{headNumbers, tailNumbers, recordNumbers, eventNumbers, numbersOf}
+use Rattle.form.specs.Facts.{BytesFrom, RecordFacts, EventFacts}
+use Rattle.form.proofs.EventLaws.{number-most, debounce-most}
 use Rattle.numbers.proofs.TableLaws.{case-limit-past}
 
 -- every number of the record is there
@@ -101,6 +103,36 @@ fields ns f =
     period-low : (v : ℕ) → periodOf v ≤ 4294967296
     period-low v = omega (arith, period-most v)
 
+-- the same of the event inputs
+pub record EventFields (k : ℕ) (ns : List ℕ) : Type 0 where
+  pub door : getD ns k 0 < 256
+  pub drum : getD ns (k + 1) 0 < 256
+  pub edges : getD ns (k + 2) 0 < 256
+  pub since : getD ns (k + 3) 0 < 65536
+  pub debounce : getD ns (k + 4) 0 < 65536
+
+pub event-fields : (k : ℕ) (ns : List ℕ) → EventFacts k ns → EventFields k ns
+event-fields k ns f =
+    record {
+      door = far (f .door) (lit 2 256 refl);
+      drum = far (f .drum) (lit 2 256 refl);
+      edges = low (f .edges) (pick-case Low (even1 v) (few (number-most v)) (lit 1 256 refl));
+      since = far (f .since) (pick-case Small (ltb 0 (getD ns (k + 2) 0)) (lit 8193 65536 refl) (lit 1 65536 refl));
+      debounce = far (f .debounce) (pick-case Small (even0 v && ltb 0 (getD ns k 0)) (short (debounce-most v)) (lit 1 65536 refl));
+    }
+  where
+    Small : ℕ → Type 0
+    Small m = m ≤ 65536
+
+    v : ℕ
+    v = registerIn ns eventAt
+
+    few : {n : ℕ} → n ≤ 32 → n ≤ 256
+    few h = omega (arith, h)
+
+    short : {n : ℕ} → n ≤ 16384 → suc n ≤ 65536
+    short h = omega (arith, h)
+
 -- bytes taken one by one from a list of numbers
 pub take-more :
     (ns l : List ℕ) (k i : ℕ) → i < length l → k + i < length ns → take i l ≡ take i (drop k ns)
@@ -124,9 +156,15 @@ taken-all ns l m k i e f g = sym (take-all i l (short f e)) ∙ g ∙ ap (λ (n 
 
 -- the pieces of the list, one after another
 pub numbers-joined :
-    (part : ℕ) (d : Device) (ee id : List ℕ) → ((part ∷ []) ++ recordNumbers d) ++ (ee ++ id) ≡ numbersOf part (world d ee id)
+    (part : ℕ) (d : Device) (ee id : List ℕ)
+    → ((part ∷ []) ++ recordNumbers d) ++ ((ee ++ id) ++ eventNumbers (d .events)) ≡ numbersOf part (world d ee id)
 unfolding numbersOf
-numbers-joined part d ee id = ap (λ (l : List ℕ). part ∷ l) (pieces (d .regs) (d .sram) (headNumbers d) (d .load .bytes) (tailNumbers (d .load) (d .cycle)) (ee ++ id))
+numbers-joined part d ee id =
+    ap (λ (l : List ℕ). part ∷ l)
+    (pieces (d .regs) (d .sram) (headNumbers d) (d .load .bytes) (tailNumbers (d .load) (d .cycle)) ((ee ++ id) ++ eventNumbers (d .events))
+    ∙ ap
+    (λ (x : List ℕ). d .regs ++ (d .sram ++ (headNumbers d ++ (d .load .bytes ++ (tailNumbers (d .load) (d .cycle) ++ x)))))
+    (append-assoc ee id (eventNumbers (d .events))))
   where
     pieces : (r s h l t m : List ℕ) → (((r ++ s) ++ h) ++ (l ++ t)) ++ m ≡ r ++ (s ++ (h ++ (l ++ (t ++ m))))
     pieces r s h l t m =

@@ -4,14 +4,16 @@ use mathlib.Core.Path.{_≡_, refl, sym, ap, subst, _∙_}
 use mathlib.Core.Logic.{_≢_}
 use mathlib.Core.Bool.{Bool, true, false, not, _&&_, _||_}
 use mathlib.Core.List.{List, [], _∷_}
-use Prim.Native.Nat.{ℕ, zero, suc, _/_, _%_, _<_, _≤_}
+use Prim.Native.Nat.{ℕ, zero, suc, _+_, _/_, _%_, _<_, _≤_}
 use native.Mathlib.Omega.{arith}
+use native.Mathlib.Numerals.{add-one}
 use borrow.Author.Tests.{eq-eqb, ne-eqb, eqb-true, ltb-true, ltb-false, lt-ltb, le-ltb}
 use lib.Dec.{ltb, eqb}
 use lib.ListN.{getD, List·getD-eq-default}
 use Rattle.base.specs.Words.{pick, bit, every}
 use Rattle.base.proofs.Tests.{by-cases, yes, no}
 use Rattle.base.proofs.Every.{every-at, same-below}
+use Rattle.events.specs.Control.{numberOf, debounceOf}
 use Rattle.record.specs.Codes.{codeOf, codeNumber}
 use Rattle.record.specs.declared.ClockAddress.{ClockAddress}
 use Rattle.record.specs.declared.EepromAddress.{EepromAddress}
@@ -22,18 +24,18 @@ use Rattle.record.specs.declared.Stage.{Stage}
 use Rattle.record.specs.declared.Stage.the-variants.{Reading, Writing, Second}
 use Rattle.record.specs.Numbers.{placeOf, pairOf, stageOf}
 use Rattle.record.specs.Part.{isPart, sizeOf, bootsOf}
-use Rattle.record.specs.Registers.{secondsAt, watchdogAt, periods, periodOf}
+use Rattle.record.specs.Registers.{secondsAt, watchdogAt, eventAt, periods, periodOf}
 use Rattle.record.specs.Stages.{foreignToWip}
-use Rattle.form.specs.Table.{rows, registerGood, partIn, registerIn, powerIn, startupBy, startupLimit, markLimit, kindLimit, caseLimit, caseGood, valueLimit, targetLimit, leftBy, leftLimit, stageGood, targetGood, partRow, registerRow, sramRow, dividerRow, startupRow, watchdogRow, delayRow, pulseRow, powerRow, markRow, welRow, protectionRow, lockRow, stageRow, offsetsRow, loadRow, nextRow, targetRow, leftRow, eepromRow, idRow}
+use Rattle.form.specs.Table.{rows, registerGood, partIn, registerIn, powerIn, startupBy, startupLimit, markLimit, kindLimit, caseLimit, caseGood, valueLimit, targetLimit, leftBy, leftLimit, edgesBy, sinceBy, debounceBy, chipEvents, stageGood, targetGood, partRow, registerRow, sramRow, dividerRow, startupRow, watchdogRow, delayRow, pulseRow, powerRow, markRow, welRow, protectionRow, lockRow, stageRow, offsetsRow, loadRow, nextRow, targetRow, leftRow, eepromRow, idRow, evlsRow, evhsRow, edgesRow, sinceRow, debounceRow}
 use Rattle.numbers.specs.Tables.{rowAt, rowCount}
 
 -- What is constant of each row, as code has it. Numbers on a line;
 abbrev pub widths : List ℕ
-widths = 1 ∷ 1 ∷ 8 ∷ 1 ∷ 1 ∷ 1 ∷ 1 ∷ 1 ∷ 1 ∷ 1 ∷ 1 ∷ 1 ∷ 1 ∷ 3 ∷ 1 ∷ 8 ∷ 1 ∷ 2 ∷ 1 ∷ 8 ∷ 8 ∷ []
+widths = 1 ∷ 1 ∷ 8 ∷ 1 ∷ 1 ∷ 1 ∷ 1 ∷ 1 ∷ 1 ∷ 1 ∷ 1 ∷ 1 ∷ 1 ∷ 3 ∷ 1 ∷ 8 ∷ 1 ∷ 2 ∷ 1 ∷ 8 ∷ 8 ∷ 1 ∷ 1 ∷ 1 ∷ 1 ∷ 1 ∷ []
 
 -- lines of a row, those of the EEPROM by the part;
 abbrev pub lineCounts : List ℕ
-lineCounts = 1 ∷ 32 ∷ 8 ∷ 1 ∷ 1 ∷ 1 ∷ 1 ∷ 1 ∷ 1 ∷ 1 ∷ 1 ∷ 1 ∷ 1 ∷ 1 ∷ 1 ∷ 1 ∷ 1 ∷ 1 ∷ 1 ∷ 0 ∷ 2 ∷ []
+lineCounts = 1 ∷ 32 ∷ 8 ∷ 1 ∷ 1 ∷ 1 ∷ 1 ∷ 1 ∷ 1 ∷ 1 ∷ 1 ∷ 1 ∷ 1 ∷ 1 ∷ 1 ∷ 1 ∷ 1 ∷ 1 ∷ 1 ∷ 0 ∷ 2 ∷ 1 ∷ 1 ∷ 1 ∷ 1 ∷ 1 ∷ []
 
 abbrev pub linesBy : ℕ → ℕ → ℕ
 linesBy i part = pick (eqb i 19) (sizeOf part / 8) (getD lineCounts i 0)
@@ -41,48 +43,53 @@ linesBy i part = pick (eqb i 19) (sizeOf part / 8) (getD lineCounts i 0)
 -- what a number is less than, where that is one number; 0 where it depends on others.
 abbrev pub limits : List ℕ
 limits =
-    0 ∷ 0 ∷ 256 ∷ 32768 ∷ 0 ∷ 0 ∷ 2097153 ∷ 4097 ∷ 2 ∷ 0 ∷ 2 ∷ 4 ∷ 3 ∷ 0 ∷ 256 ∷ 256 ∷ 8 ∷ 0 ∷ 0 ∷ 256 ∷ 256 ∷ []
+    0 ∷ 0 ∷ 256 ∷ 32768 ∷ 0 ∷ 0 ∷ 2097153 ∷ 4097 ∷ 2 ∷ 0 ∷ 2 ∷ 4 ∷ 3 ∷ 0 ∷ 256 ∷ 256 ∷ 8 ∷ 0 ∷ 0 ∷ 256 ∷ 256 ∷ 2 ∷ 2 ∷ 0 ∷ 0 ∷ 0 ∷ []
 
 pub row-width : (i : ℕ) → i < rowCount → getD widths i 0 ≡ rowAt i .width
-unfolding every rowAt rows partRow registerRow sramRow dividerRow startupRow watchdogRow delayRow pulseRow powerRow markRow welRow protectionRow lockRow stageRow offsetsRow loadRow nextRow targetRow leftRow eepromRow idRow
-row-width i h = same-below (λ (k : ℕ). getD widths k 0) (λ (k : ℕ). rowAt k .width) 21 refl i h
+unfolding every rowAt rows partRow registerRow sramRow dividerRow startupRow watchdogRow delayRow pulseRow powerRow markRow welRow protectionRow lockRow stageRow offsetsRow loadRow nextRow targetRow leftRow eepromRow idRow evlsRow evhsRow edgesRow sinceRow debounceRow
+row-width i h = same-below (λ (k : ℕ). getD widths k 0) (λ (k : ℕ). rowAt k .width) 26 refl i h
 
 pub row-lines : (b : List ℕ) (i : ℕ) → i < rowCount → rowAt i .lines b ≡ linesBy i (partIn b)
-unfolding every rowAt rows partRow registerRow sramRow dividerRow startupRow watchdogRow delayRow pulseRow powerRow markRow welRow protectionRow lockRow stageRow offsetsRow loadRow nextRow targetRow leftRow eepromRow idRow
+unfolding every rowAt rows partRow registerRow sramRow dividerRow startupRow watchdogRow delayRow pulseRow powerRow markRow welRow protectionRow lockRow stageRow offsetsRow loadRow nextRow targetRow leftRow eepromRow idRow evlsRow evhsRow edgesRow sinceRow debounceRow
 row-lines b i h =
     by-cases (eqb i 19) (λ t. rw (eqb-true i 19 t))
-    (λ f. rw f (eqb-true _ _ (other f (every-at (λ (k : ℕ). eqb k 19 || eqb (rowAt k .lines b) (getD lineCounts k 0)) 21 refl i h))))
+    (λ f. rw f (eqb-true _ _ (other f (every-at (λ (k : ℕ). eqb k 19 || eqb (rowAt k .lines b) (getD lineCounts k 0)) 26 refl i h))))
   where
     other : {t u : Bool} → t ≡ false → (t || u) ≡ true → u ≡ true
     other e g = rw e at g
 
 -- the rows whose limit is one number
 pub row-limit :
-    (i : ℕ) → i < rowCount → i ≢ 0 → i ≢ 1 → i ≢ 4 → i ≢ 5 → i ≢ 9 → i ≢ 13 → i ≢ 17 → i ≢ 18 → (b : List ℕ) (j n : ℕ)
+    (i : ℕ) → i < rowCount → i ≢ 0 → i ≢ 1 → i ≢ 4 → i ≢ 5 → i ≢ 9 → i ≢ 13 → i ≢ 17 → i ≢ 18 → i ≢ 23 → i ≢ 24 → i ≢ 25 → (b : List ℕ) (j n : ℕ)
     → ltb n (getD limits i 0) ≡ rowAt i .good b j n
-unfolding rowAt rows partRow registerRow sramRow dividerRow startupRow watchdogRow delayRow pulseRow powerRow markRow welRow protectionRow lockRow stageRow offsetsRow loadRow nextRow targetRow leftRow eepromRow idRow
-row-limit zero h e0 e1 e4 e5 e9 e13 e17 e18 b j n = absurd (e0 refl)
-row-limit (suc zero) h e0 e1 e4 e5 e9 e13 e17 e18 b j n = absurd (e1 refl)
-row-limit (suc (suc zero)) h e0 e1 e4 e5 e9 e13 e17 e18 b j n = refl
-row-limit (suc (suc (suc zero))) h e0 e1 e4 e5 e9 e13 e17 e18 b j n = refl
-row-limit (suc (suc (suc (suc zero)))) h e0 e1 e4 e5 e9 e13 e17 e18 b j n = absurd (e4 refl)
-row-limit (suc (suc (suc (suc (suc zero))))) h e0 e1 e4 e5 e9 e13 e17 e18 b j n = absurd (e5 refl)
-row-limit (suc (suc (suc (suc (suc (suc zero)))))) h e0 e1 e4 e5 e9 e13 e17 e18 b j n = refl
-row-limit (suc (suc (suc (suc (suc (suc (suc zero))))))) h e0 e1 e4 e5 e9 e13 e17 e18 b j n = refl
-row-limit (suc (suc (suc (suc (suc (suc (suc (suc zero)))))))) h e0 e1 e4 e5 e9 e13 e17 e18 b j n = refl
-row-limit (suc (suc (suc (suc (suc (suc (suc (suc (suc zero))))))))) h e0 e1 e4 e5 e9 e13 e17 e18 b j n = absurd (e9 refl)
-row-limit (suc (suc (suc (suc (suc (suc (suc (suc (suc (suc zero)))))))))) h e0 e1 e4 e5 e9 e13 e17 e18 b j n = refl
-row-limit (suc (suc (suc (suc (suc (suc (suc (suc (suc (suc (suc zero))))))))))) h e0 e1 e4 e5 e9 e13 e17 e18 b j n = refl
-row-limit (suc (suc (suc (suc (suc (suc (suc (suc (suc (suc (suc (suc zero)))))))))))) h e0 e1 e4 e5 e9 e13 e17 e18 b j n = refl
-row-limit (suc (suc (suc (suc (suc (suc (suc (suc (suc (suc (suc (suc (suc zero))))))))))))) h e0 e1 e4 e5 e9 e13 e17 e18 b j n = absurd (e13 refl)
-row-limit (suc (suc (suc (suc (suc (suc (suc (suc (suc (suc (suc (suc (suc (suc zero)))))))))))))) h e0 e1 e4 e5 e9 e13 e17 e18 b j n = refl
-row-limit (suc (suc (suc (suc (suc (suc (suc (suc (suc (suc (suc (suc (suc (suc (suc zero))))))))))))))) h e0 e1 e4 e5 e9 e13 e17 e18 b j n = refl
-row-limit (suc (suc (suc (suc (suc (suc (suc (suc (suc (suc (suc (suc (suc (suc (suc (suc zero)))))))))))))))) h e0 e1 e4 e5 e9 e13 e17 e18 b j n = refl
-row-limit (suc (suc (suc (suc (suc (suc (suc (suc (suc (suc (suc (suc (suc (suc (suc (suc (suc zero))))))))))))))))) h e0 e1 e4 e5 e9 e13 e17 e18 b j n = absurd (e17 refl)
-row-limit (suc (suc (suc (suc (suc (suc (suc (suc (suc (suc (suc (suc (suc (suc (suc (suc (suc (suc zero)))))))))))))))))) h e0 e1 e4 e5 e9 e13 e17 e18 b j n = absurd (e18 refl)
-row-limit (suc (suc (suc (suc (suc (suc (suc (suc (suc (suc (suc (suc (suc (suc (suc (suc (suc (suc (suc zero))))))))))))))))))) h e0 e1 e4 e5 e9 e13 e17 e18 b j n = refl
-row-limit (suc (suc (suc (suc (suc (suc (suc (suc (suc (suc (suc (suc (suc (suc (suc (suc (suc (suc (suc (suc zero)))))))))))))))))))) h e0 e1 e4 e5 e9 e13 e17 e18 b j n = refl
-row-limit (suc (suc (suc (suc (suc (suc (suc (suc (suc (suc (suc (suc (suc (suc (suc (suc (suc (suc (suc (suc (suc i))))))))))))))))))))) h e0 e1 e4 e5 e9 e13 e17 e18 b j n = absurd (omega arith)
+unfolding rowAt rows partRow registerRow sramRow dividerRow startupRow watchdogRow delayRow pulseRow powerRow markRow welRow protectionRow lockRow stageRow offsetsRow loadRow nextRow targetRow leftRow eepromRow idRow evlsRow evhsRow edgesRow sinceRow debounceRow
+row-limit zero h e0 e1 e4 e5 e9 e13 e17 e18 e23 e24 e25 b j n = absurd (e0 refl)
+row-limit (suc zero) h e0 e1 e4 e5 e9 e13 e17 e18 e23 e24 e25 b j n = absurd (e1 refl)
+row-limit (suc (suc zero)) h e0 e1 e4 e5 e9 e13 e17 e18 e23 e24 e25 b j n = refl
+row-limit (suc (suc (suc zero))) h e0 e1 e4 e5 e9 e13 e17 e18 e23 e24 e25 b j n = refl
+row-limit (suc (suc (suc (suc zero)))) h e0 e1 e4 e5 e9 e13 e17 e18 e23 e24 e25 b j n = absurd (e4 refl)
+row-limit (suc (suc (suc (suc (suc zero))))) h e0 e1 e4 e5 e9 e13 e17 e18 e23 e24 e25 b j n = absurd (e5 refl)
+row-limit (suc (suc (suc (suc (suc (suc zero)))))) h e0 e1 e4 e5 e9 e13 e17 e18 e23 e24 e25 b j n = refl
+row-limit (suc (suc (suc (suc (suc (suc (suc zero))))))) h e0 e1 e4 e5 e9 e13 e17 e18 e23 e24 e25 b j n = refl
+row-limit (suc (suc (suc (suc (suc (suc (suc (suc zero)))))))) h e0 e1 e4 e5 e9 e13 e17 e18 e23 e24 e25 b j n = refl
+row-limit (suc (suc (suc (suc (suc (suc (suc (suc (suc zero))))))))) h e0 e1 e4 e5 e9 e13 e17 e18 e23 e24 e25 b j n = absurd (e9 refl)
+row-limit (suc (suc (suc (suc (suc (suc (suc (suc (suc (suc zero)))))))))) h e0 e1 e4 e5 e9 e13 e17 e18 e23 e24 e25 b j n = refl
+row-limit (suc (suc (suc (suc (suc (suc (suc (suc (suc (suc (suc zero))))))))))) h e0 e1 e4 e5 e9 e13 e17 e18 e23 e24 e25 b j n = refl
+row-limit (suc (suc (suc (suc (suc (suc (suc (suc (suc (suc (suc (suc zero)))))))))))) h e0 e1 e4 e5 e9 e13 e17 e18 e23 e24 e25 b j n = refl
+row-limit (suc (suc (suc (suc (suc (suc (suc (suc (suc (suc (suc (suc (suc zero))))))))))))) h e0 e1 e4 e5 e9 e13 e17 e18 e23 e24 e25 b j n = absurd (e13 refl)
+row-limit (suc (suc (suc (suc (suc (suc (suc (suc (suc (suc (suc (suc (suc (suc zero)))))))))))))) h e0 e1 e4 e5 e9 e13 e17 e18 e23 e24 e25 b j n = refl
+row-limit (suc (suc (suc (suc (suc (suc (suc (suc (suc (suc (suc (suc (suc (suc (suc zero))))))))))))))) h e0 e1 e4 e5 e9 e13 e17 e18 e23 e24 e25 b j n = refl
+row-limit (suc (suc (suc (suc (suc (suc (suc (suc (suc (suc (suc (suc (suc (suc (suc (suc zero)))))))))))))))) h e0 e1 e4 e5 e9 e13 e17 e18 e23 e24 e25 b j n = refl
+row-limit (suc (suc (suc (suc (suc (suc (suc (suc (suc (suc (suc (suc (suc (suc (suc (suc (suc zero))))))))))))))))) h e0 e1 e4 e5 e9 e13 e17 e18 e23 e24 e25 b j n = absurd (e17 refl)
+row-limit (suc (suc (suc (suc (suc (suc (suc (suc (suc (suc (suc (suc (suc (suc (suc (suc (suc (suc zero)))))))))))))))))) h e0 e1 e4 e5 e9 e13 e17 e18 e23 e24 e25 b j n = absurd (e18 refl)
+row-limit (suc (suc (suc (suc (suc (suc (suc (suc (suc (suc (suc (suc (suc (suc (suc (suc (suc (suc (suc zero))))))))))))))))))) h e0 e1 e4 e5 e9 e13 e17 e18 e23 e24 e25 b j n = refl
+row-limit (suc (suc (suc (suc (suc (suc (suc (suc (suc (suc (suc (suc (suc (suc (suc (suc (suc (suc (suc (suc zero)))))))))))))))))))) h e0 e1 e4 e5 e9 e13 e17 e18 e23 e24 e25 b j n = refl
+row-limit (suc (suc (suc (suc (suc (suc (suc (suc (suc (suc (suc (suc (suc (suc (suc (suc (suc (suc (suc (suc (suc zero))))))))))))))))))))) h e0 e1 e4 e5 e9 e13 e17 e18 e23 e24 e25 b j n = refl
+row-limit (suc (suc (suc (suc (suc (suc (suc (suc (suc (suc (suc (suc (suc (suc (suc (suc (suc (suc (suc (suc (suc (suc zero)))))))))))))))))))))) h e0 e1 e4 e5 e9 e13 e17 e18 e23 e24 e25 b j n = refl
+row-limit (suc (suc (suc (suc (suc (suc (suc (suc (suc (suc (suc (suc (suc (suc (suc (suc (suc (suc (suc (suc (suc (suc (suc zero))))))))))))))))))))))) h e0 e1 e4 e5 e9 e13 e17 e18 e23 e24 e25 b j n = absurd (e23 refl)
+row-limit (suc (suc (suc (suc (suc (suc (suc (suc (suc (suc (suc (suc (suc (suc (suc (suc (suc (suc (suc (suc (suc (suc (suc (suc zero)))))))))))))))))))))))) h e0 e1 e4 e5 e9 e13 e17 e18 e23 e24 e25 b j n = absurd (e24 refl)
+row-limit (suc (suc (suc (suc (suc (suc (suc (suc (suc (suc (suc (suc (suc (suc (suc (suc (suc (suc (suc (suc (suc (suc (suc (suc (suc zero))))))))))))))))))))))))) h e0 e1 e4 e5 e9 e13 e17 e18 e23 e24 e25 b j n = absurd (e25 refl)
+row-limit (suc (suc (suc (suc (suc (suc (suc (suc (suc (suc (suc (suc (suc (suc (suc (suc (suc (suc (suc (suc (suc (suc (suc (suc (suc (suc i)))))))))))))))))))))))))) h e0 e1 e4 e5 e9 e13 e17 e18 e23 e24 e25 b j n = absurd (omega arith)
 
 -- Kind and case of a stage as bytes: one that is no byte is no number of theirs, and neither is 255.
 off : (n : ℕ) → ltb n 256 ≡ false → (i : ℕ) → ltb i 256 ≡ true → eqb n i ≡ false
@@ -132,6 +139,19 @@ period-rest v = ap (λ (k : ℕ). getD periods k 0) (rest v)
     rest : (n : ℕ) → n % 8 % 8 ≡ n % 8
     rest n = omega arith
 
+-- of 0Bh the lowest bits set edges and debounce
+pub number-rest : (v : ℕ) → numberOf (v % 4) ≡ numberOf v
+number-rest v = ap (λ (k : ℕ). getD (1 ∷ 4 ∷ 16 ∷ 32 ∷ []) k 0) (rest v)
+  where
+    rest : (n : ℕ) → n % 4 % 4 ≡ n % 4
+    rest n = omega arith
+
+pub debounce-rest : (v : ℕ) → debounceOf (v % 8) ≡ debounceOf v
+debounce-rest v = ap (λ (k : ℕ). pick (eqb k 1) 16384 1024) (rest v)
+  where
+    rest : (n : ℕ) → n % 8 / 4 % 2 ≡ n / 4 % 2
+    rest n = omega arith
+
 pub case-limit-past : (k : ℕ) → 8 ≤ k → 1 ≡ caseLimit k
 case-limit-past k h = sym (List·getD-eq-default (1 ∷ 1 ∷ 1 ∷ 256 ∷ 3 ∷ 3 ∷ 4 ∷ 6 ∷ []) 1 {n = k} h)
 
@@ -151,6 +171,12 @@ left-open power e h = yes 165 1 (ap (λ (u : Bool). power && not u) (sym e) ∙ 
 
 pub left-shut : (power : Bool) {t foreign : Bool} → t ≡ foreign → (power && not t) ≡ false → 1 ≡ leftBy power foreign
 left-shut power e h = no 165 1 (ap (λ (u : Bool). power && not u) (sym e) ∙ h)
+
+pub debounce-open : (v level : ℕ) {n : ℕ} → n ≡ debounceOf (v % 8) → (bit v 4 && ltb 0 level) ≡ true → n + 1 ≡ debounceBy v level
+debounce-open v level {n} e t = add-one n ∙ ap suc (e ∙ debounce-rest v) ∙ yes (suc (debounceOf v)) 1 t
+
+pub debounce-shut : (v level : ℕ) → (bit v 4 && ltb 0 level) ≡ false → 1 ≡ debounceBy v level
+debounce-shut v level t = no (suc (debounceOf v)) 1 t
 
 pub left-told : (b : List ℕ) → leftBy (powerIn b) (foreignToWip (stageOf (getD b 107 0) (getD b 108 0) 0)) ≡ leftLimit b
 left-told b = ap (leftBy (powerIn b)) (value-free (getD b 108 0) (getD b 109 0) (getD b 107 0))
@@ -223,3 +249,15 @@ module _ (i : ℕ) (b : List ℕ) (j n : ℕ) where
   pub left-good : i ≡ 18 → ltb n (leftLimit b) ≡ rowAt i .good b j n
   unfolding rowAt rows leftRow
   left-good e = ap (λ (k : ℕ). rowAt k .good b j n) (sym e)
+
+  pub edges-good : i ≡ 23 → ltb n (edgesBy (registerIn b eventAt)) ≡ rowAt i .good b j n
+  unfolding rowAt rows edgesRow
+  edges-good e = ap (λ (k : ℕ). rowAt k .good b j n) (sym e)
+
+  pub since-good : i ≡ 24 → ltb n (sinceBy (getD b (chipEvents b + 2) 0)) ≡ rowAt i .good b j n
+  unfolding rowAt rows sinceRow
+  since-good e = ap (λ (k : ℕ). rowAt k .good b j n) (sym e)
+
+  pub debounce-good : i ≡ 25 → ltb n (debounceBy (registerIn b eventAt) (getD b (chipEvents b) 0)) ≡ rowAt i .good b j n
+  unfolding rowAt rows debounceRow
+  debounce-good e = ap (λ (k : ℕ). rowAt k .good b j n) (sym e)

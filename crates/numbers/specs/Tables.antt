@@ -6,10 +6,10 @@ use Rattle.form.specs.Table.{Row, rows, idRow}
 
 -- how many rows there are, and how many numbers the largest part has
 abbrev pub rowCount : ℕ
-rowCount = 21
+rowCount = 26
 
 abbrev pub numberLimit : ℕ
-numberLimit = 395
+numberLimit = 400
 
 unfoldable pub rowAt : ℕ → Row
 rowAt i = getD rows i idRow

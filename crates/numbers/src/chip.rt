@@ -1,4 +1,5 @@
 // A chip with its memories as one list of numbers, and the chip of a list.
+use events::Events;
 use record::Counters;
 use record::Cycle;
 use record::Device;
@@ -17,8 +18,8 @@ ghost use Rattle.record.specs.Numbers.{stageValue};
 ghost use Rattle.record.specs.World.{world};
 ghost use Rattle.text.specs.Buffer.{buffer, append};
 ghost use Rattle.form.specs.Table.{stageIn};
-ghost use Rattle.form.specs.Chip.{countNumbers, guardNumbers, stageNumbers, headNumbers, tailNumbers, recordNumbers, numbersOf, deviceOf};
-ghost use Rattle.form.specs.Facts.{BytesFrom, RecordFacts};
+ghost use Rattle.form.specs.Chip.{countNumbers, guardNumbers, stageNumbers, headNumbers, tailNumbers, recordNumbers, eventNumbers, numbersOf, eventsOf, deviceFrom, deviceOf};
+ghost use Rattle.form.specs.Facts.{BytesFrom, RecordFacts, EventFacts};
 ghost use Rattle.numbers.specs.Tables.{numberLimit};
 
 // The first n numbers of a list; all of them where there are fewer.
@@ -119,10 +120,27 @@ fn sram_of(numbers: &[u64]) -> [u8; 64]
     sram
 }
 
-// The record of a list that begins with the numbers of one.
-pub fn device_of(numbers: &[u64]) -> Device
+// The event inputs, from a place on.
+fn events_of(numbers: &[u64], from: usize) -> Events
+    requires { ⌜ EventFacts from (now numbers) ⌝ }
+    requires { ⌜ from + 5 ≤ length (now numbers) ⌝ }
+    ensures { λ r. ⌜ r ≡ eventsOf from (now (numbers .entry)) ⌝ }
+{
+    Events {
+        door: numbers[from] as u8,
+        drum: numbers[from + 1] as u8,
+        edges: numbers[from + 2] as u8,
+        since: numbers[from + 3] as u16,
+        debounce: numbers[from + 4] as u16,
+    }
+}
+
+// The record of a list that begins with the numbers of one and has its event inputs at a place.
+pub fn device_of(numbers: &[u64], from: usize) -> Device
     requires { ⌜ RecordFacts (now numbers) ⌝ }
-    ensures { λ r. ⌜ r ≡ deviceOf (now (numbers .entry)) ⌝ }
+    requires { ⌜ EventFacts from (now numbers) ⌝ }
+    requires { ⌜ from + 5 ≤ length (now numbers) ⌝ }
+    ensures { λ r. ⌜ r ≡ deviceFrom from (now (numbers .entry)) ⌝ }
 {
     let regs = registers_of(numbers);
     let sram = sram_of(numbers);
@@ -131,6 +149,7 @@ pub fn device_of(numbers: &[u64]) -> Device
     let stage = stage_at(numbers);
     let load = load_of(numbers);
     let cycle = cycle_of(numbers);
+    let events = events_of(numbers, from);
     Device {
         regs,
         sram,
@@ -141,6 +160,7 @@ pub fn device_of(numbers: &[u64]) -> Device
         frame: Frame { stage },
         load,
         cycle,
+        events,
     }
 }
 
@@ -189,6 +209,18 @@ fn tail_numbers(load: Load, cycle: Cycle) -> [u64; 4]
         crate::target_kind(target) as u64,
         crate::target_value(target) as u64,
         cycle.left as u64,
+    ]
+}
+
+fn event_numbers(e: Events) -> [u64; 5]
+    ensures { λ r. ⌜ r ≡ eventNumbers e ⌝ }
+{
+    [
+        e.door as u64,
+        e.drum as u64,
+        e.edges as u64,
+        e.since as u64,
+        e.debounce as u64,
     ]
 }
 
@@ -267,13 +299,24 @@ fn put_memories(eeprom: &[u8], id: &[u8], into: &mut [u64], at: usize) -> usize
     put_bytes(id, into, next)
 }
 
+// What stands behind the record: the memories, and the event inputs.
+fn put_rest(e: Events, eeprom: &[u8], id: &[u8], into: &mut [u64], at: usize) -> usize
+    requires { ⌜ at + length ((now eeprom ++ now id) ++ eventNumbers e) ≤ length (now into) ⌝ }
+    ensures { λ r. ⌜ buffer (now (into .exit)) r ≡ append (buffer (now (into .entry)) at) ((now (eeprom .entry) ++ now (id .entry)) ++ eventNumbers e) ⌝ }
+{
+    let numbers = event_numbers(e);
+    let next = put_memories(eeprom, id, into, at);
+    put_numbers(&numbers, into, next)
+}
+
 // All numbers of a chip, from the beginning of the list; how many they are. What a stage carries is a byte.
 pub fn numbers_of(part: u64, d: Device, eeprom: &[u8], id: &[u8], into: &mut [u64]) -> usize
     requires { ⌜ length (numbersOf part (world d (now eeprom) (now id))) ≤ length (now into) ⌝ }
     ensures { λ r. ⌜ buffer (now (into .exit)) r ≡ append (buffer (now (into .entry)) 0) (numbersOf part (world d (now (eeprom .entry)) (now (id .entry)))) ⌝ }
     ensures { λ r. ⌜ stageValue (d .frame .stage) < 256 ⌝ }
 {
+    let events = d.events;
     let begun = put_number(part, into, 0);
     let next = put_record(d, into, begun);
-    put_memories(eeprom, id, into, next)
+    put_rest(events, eeprom, id, into, next)
 }

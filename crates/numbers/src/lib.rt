@@ -6,11 +6,13 @@ use record::IdAddress;
 use record::Lock;
 use record::Long;
 use record::Pair;
+use record::Pin;
 use record::Place;
 use record::Reply;
 use record::Stage;
 use record::Target;
 ghost use mathlib.Core.Path.{_≡_};
+ghost use Rattle.record.specs.declared.Act.the-variants.{Set};
 ghost use Rattle.record.specs.Numbers.{actNumber, lockOf, lockNumber, replyNumber, placeOf, placeKind, placeValue, pairOf, pairKind, pairValue, longOf, longKind, stageOf, stageKind, stageCase, stageValue, targetOf, targetKind, targetValue};
 
 pub mod chip; // chip.rt: the whole list, and back
@@ -26,6 +28,16 @@ pub fn act_number(act: Act) -> u8
         Act::Wait => 3,
         Act::Cut => 4,
         Act::Up => 5,
+        Act::Set(p) => pin_number(p),
+    }
+}
+
+fn pin_number(p: Pin) -> u8
+    ensures { λ r. ⌜ r ≡ actNumber (Set p) ⌝ }
+{
+    match p {
+        Pin::Evls => 6,
+        Pin::Evhs => 7,
     }
 }
 

@@ -1,25 +1,26 @@
 // The table of the saved form: of each row its lines and widths, and whether a number is good at a place, by those before it.
+use events::control;
 use record::ClockAddress;
 use record::part;
 use record::registers;
 use record::stages;
 ghost use mathlib.Core.Path.{_≡_};
-ghost use Prim.Native.Nat.{_<_};
+ghost use Prim.Native.Nat.{_+_, _<_, _≤_};
 ghost use mathlib.Core.List.{[], _∷_};
 ghost use lib.Dec.{ltb, eqb};
-ghost use lib.ListN.{length};
+ghost use lib.ListN.{length, getD};
 ghost use Rattle.base.specs.Words.{pick, bit};
-ghost use Rattle.record.specs.Part.{bootsOf};
-ghost use Rattle.record.specs.Registers.{periodOf};
+ghost use Rattle.record.specs.Part.{sizeOf, idSize, bootsOf};
+ghost use Rattle.record.specs.Registers.{eventAt, periodOf};
 ghost use Rattle.record.specs.Numbers.{stageOf};
 ghost use Rattle.record.specs.Stages.{foreignToWip};
-ghost use Rattle.form.specs.Table.{registerGood, startupBy, markBy, kindBy, caseLimit, caseGood, addressLimit, valueLimit, targetLimit, leftBy, stageGood, targetGood};
+ghost use Rattle.form.specs.Table.{registerIn, chipEvents, registerGood, startupBy, markBy, kindBy, caseLimit, caseGood, addressLimit, valueLimit, targetLimit, leftBy, edgesBy, sinceBy, debounceBy, stageGood, targetGood};
 ghost use Rattle.numbers.specs.Tables.{rowAt, rowCount, numberLimit};
 
 // How many rows the table has, and how many numbers a part of 2 Kbit.
-pub const ROWS: usize = 21;
+pub const ROWS: usize = 26;
 
-pub const NUMBERS: usize = 395;
+pub const NUMBERS: usize = 400;
 
 const WIDTHS: [usize; ROWS] = [
     1,
@@ -43,6 +44,11 @@ const WIDTHS: [usize; ROWS] = [
     1,
     8,
     8,
+    1,
+    1,
+    1,
+    1,
+    1,
 ];
 
 const LINES: [usize; ROWS] = [
@@ -67,6 +73,11 @@ const LINES: [usize; ROWS] = [
     1,
     0,
     2,
+    1,
+    1,
+    1,
+    1,
+    1,
 ];
 
 const EEPROM: usize = 19;
@@ -94,6 +105,11 @@ const LIMITS: [u64; ROWS] = [
     0,
     256,
     256,
+    2,
+    2,
+    0,
+    0,
+    0,
 ];
 
 // How many cases a stage has, by its kind.
@@ -270,6 +286,58 @@ pub fn left_limit(power: u64, kind: u64, which: u64) -> u64
     if open { 165 } else { 1 }
 }
 
+// By the byte of 0Bh.
+pub fn edges_limit(v: u64) -> u64
+    ensures { λ r. ⌜ r ≡ edgesBy v ⌝ }
+{
+    if v / 32 % 2 == 1 {
+        return control::number((v % 4) as u8) as u64;
+    }
+    1
+}
+
+// By the edges counted.
+pub fn since_limit(edges: u64) -> u64
+    ensures { λ r. ⌜ r ≡ sinceBy edges ⌝ }
+{
+    if 0 < edges { 8193 } else { 1 }
+}
+
+// By the byte of 0Bh and the level of EVLS.
+pub fn debounce_limit(v: u64, level: u64) -> u64
+    ensures { λ r. ⌜ r ≡ debounceBy v level ⌝ }
+{
+    let runs = (v / 16 % 2 == 1) & (0 < level);
+    if runs {
+        return control::debounce_ticks((v % 8) as u8) as u64 + 1;
+    }
+    1
+}
+
+// The first place of the event inputs.
+pub fn events_from(part: u64) -> usize
+    ensures { λ r. ⌜ r ≡ 123 + sizeOf part + idSize ⌝ }
+    ensures { λ r. ⌜ r ≤ 395 ⌝ }
+{
+    123 + part::size(part) as usize + 16
+}
+
+fn since_good(numbers: &[u64], n: u64) -> bool
+    requires { ⌜ length (now numbers) ≡ numberLimit ⌝ }
+    ensures { λ r. ⌜ r ≡ ltb n (sinceBy (getD (now (numbers .entry)) (chipEvents (now (numbers .entry)) + 2) 0)) ⌝ }
+{
+    let from = events_from(numbers[0]);
+    n < since_limit(numbers[from + 2])
+}
+
+fn debounce_good(numbers: &[u64], n: u64) -> bool
+    requires { ⌜ length (now numbers) ≡ numberLimit ⌝ }
+    ensures { λ r. ⌜ r ≡ ltb n (debounceBy (registerIn (now (numbers .entry)) eventAt) (getD (now (numbers .entry)) (chipEvents (now (numbers .entry))) 0)) ⌝ }
+{
+    let from = events_from(numbers[0]);
+    n < debounce_limit(numbers[12], numbers[from])
+}
+
 // Whether n is good as number j of a row, after the numbers of the list; those that have not come are 0.
 pub fn good(row: usize, numbers: &[u64], j: usize, n: u64) -> bool
     requires { ⌜ row < rowCount ⌝ }
@@ -286,6 +354,9 @@ pub fn good(row: usize, numbers: &[u64], j: usize, n: u64) -> bool
         13 => stage_good(numbers, j, n),
         17 => target_good(numbers, j, n),
         18 => n < left_limit(numbers[102], numbers[107], numbers[108]),
+        23 => n < edges_limit(numbers[12]),
+        24 => since_good(numbers, n),
+        25 => debounce_good(numbers, n),
         _ => {
             let limits = LIMITS;
             n < limits[row]

@@ -28,7 +28,7 @@ use Rattle.record.specs.declared.Target.the-variants.{Eeprom, Id, Status}
 use Rattle.record.specs.Address.{pageOf}
 use Rattle.record.specs.Fresh.{fresh}
 use Rattle.record.specs.Part.{bootsOf}
-use Rattle.record.specs.Registers.{vbaten, secondsAt, dayAt, watchdogAt, powerDownAt, powerUpAt}
+use Rattle.record.specs.Registers.{vbaten, secondsAt, dayAt, watchdogAt, eventAt, powerDownAt, powerUpAt}
 use Rattle.record.specs.Stamps.{stamped}
 use Rattle.record.specs.Setters.{withRegs, withWatchdog, withDelay, withPulse}
 use Rattle.record.specs.Stored.{storedSet, storedCount, storePage}
@@ -37,8 +37,11 @@ use Rattle.record.proofs.PeriodLaws.{period-least}
 use Rattle.record.proofs.StampLaws.{stamped-other, stamped-length}
 use Rattle.record.proofs.WorldLaws.{sized-by, replicate-bytes, eeprom-case, id-case}
 use Rattle.refusals.specs.InRange.{InRange}
+use Rattle.events.specs.Pins.{noCounts}
+use Rattle.events.specs.Rows.{EventsIn}
+use Rattle.events.proofs.EmbedLaws.{counts-none}
 use Rattle.refusals.proofs.RangeLaws.{fresh-facts}
-use Rattle.refusals.proofs.KeepLaws.{ClockOf, AllInside, Beside, beside, watchdog-in, delay-in, pulse-in, regs-in, regs-beside-in, set-inside, stamped-inside, with-vbat-inside, in-range-beside}
+use Rattle.refusals.proofs.KeepLaws.{ClockOf, AllInside, Beside, beside, watchdog-in, delay-in, pulse-in, regs-in, events-in, regs-beside-in, set-inside, stamped-inside, with-vbat-inside, in-range-beside}
 use Rattle.power.specs.Power.{watchdogCut, takesStamp, failureStamped, forgotten, stoppedBy, afterCut, cutCount, cutWorld, returnStamped, afterUp}
 
 -- The ones of the loaded offsets under a mask are the offsets that are stored.
@@ -96,6 +99,7 @@ watchdog-cut-in boots d r =
     (set (d .regs) watchdogAt v) (set-inside (d .regs) watchdogAt v (below-mask 8 (omega arith) v b b) (r .inside))
     (omega (arith, period-least (getD (set (d .regs) watchdogAt v) watchdogAt 0)))
     (set-case (λ (x : ℕ). boots ≡ false → bit x 7 ≡ false → d .counters .startup ≡ 0) (d .regs) watchdogAt secondsAt v (λ q. absurd (omega arith)) (r .stopped))
+    (set-case (λ (x : ℕ). EventsIn x (d .events)) (d .regs) watchdogAt eventAt v (λ q. absurd (omega arith)) (r .events))
 
 -- The time-stamp of a failure, and VBAT: inside their masks, and beside what the counts read.
 failure-inside : (regs : List ℕ) → AllInside regs → AllInside (failureStamped regs)
@@ -118,6 +122,7 @@ failure-in boots d r =
     let regs : List ℕ = d .regs in
     regs-beside-in boots d r (failureStamped regs) (failure-inside regs (r .inside))
     (failure-other regs watchdogAt (omega arith) (λ e. omega arith)) (failure-other regs secondsAt (omega arith) (λ e. omega arith))
+    (failure-other regs eventAt (omega arith) (λ e. omega arith))
 
 pub cut-in-range : (part mask : ℕ) (d : Device) → InRange part d → InRange part (afterCut mask d)
 unfolding fresh
@@ -126,7 +131,7 @@ cut-in-range part mask d r =
     in-range-beside part (stoppedBy mask d) (afterCut mask d) (stopped-in-range part mask d r) (cut-beside mask d)
     (cut-case (ClockOf boots) mask d
     (λ t. watchdog-cut-in boots (withRegs (stoppedBy mask d) (failureStamped (d .regs))) (failure-in boots (stoppedBy mask d) (r .clock)))
-    (λ t. fresh-facts part .clock))
+    (λ t. events-in boots fresh (fresh-facts part .clock) (noCounts (d .events)) (counts-none 0 (d .events) (r .clock .events .door) (r .clock .events .drum))))
 
 pub cut-sized : (mask : ℕ) (d : Device) → Sized d → Sized (afterCut mask d)
 cut-sized mask d z =
@@ -193,6 +198,7 @@ return-in boots mark d r =
     regs-beside-in boots d r (returnStamped mark regs)
     (pick-case AllInside mark (stamped-inside powerUpAt regs (omega arith) (omega arith) (r .inside)) (r .inside))
     (return-other mark regs watchdogAt (omega arith)) (return-other mark regs secondsAt (omega arith))
+    (return-other mark regs eventAt (omega arith))
 
 -- power up leaves a record in range
 pub up-in-range : (part : ℕ) (d : Device) → InRange part d → InRange part (afterUp d)

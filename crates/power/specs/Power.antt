@@ -7,6 +7,7 @@ use mathlib.Core.List.{List}
 use lib.Dec.{eqb}
 use lib.ListN.{getD, set}
 use Rattle.base.specs.Words.{pick}
+use Rattle.events.specs.Pins.{noCounts}
 use Rattle.record.specs.declared.Device.{Device}
 use Rattle.record.specs.declared.Protection.{Protection}
 use Rattle.record.specs.declared.Stage.the-variants.{Idle}
@@ -14,7 +15,7 @@ use Rattle.record.specs.declared.Lock.the-variants.{Closed}
 use Rattle.record.specs.Registers.{vbaten, vbat, watchdogAt, powerDownAt, powerUpAt}
 use Rattle.record.specs.Stamps.{stamped, withVbat}
 use Rattle.record.specs.Fresh.{freshRegs, freshSram, freshCounters}
-use Rattle.record.specs.Setters.{withRegs, withSram, withCounters, withWatchdog, withDelay, withPulse, withPower, withMark, withWel, withProtection, withLock, withStage, withLeft}
+use Rattle.record.specs.Setters.{withRegs, withSram, withCounters, withWatchdog, withDelay, withPulse, withPower, withMark, withWel, withProtection, withLock, withStage, withLeft, withEvents}
 use Rattle.record.specs.World.{World, world}
 use Rattle.record.specs.Stored.{eepromAfter, idAfter, protectionAfter, storedCount}
 
@@ -30,9 +31,9 @@ takesStamp regs = vbaten regs && not (vbat regs)
 abbrev pub failureStamped : List ℕ → List ℕ
 failureStamped regs = pick (takesStamp regs) (withVbat (stamped powerDownAt regs)) regs
 
--- P10. Without the battery registers, SRAM and all counts are as fresh.
+-- P10. Without the battery registers, SRAM and all counts are as fresh. V13. The event inputs' counts too; their levels stay.
 abbrev pub forgotten : Device → Device
-forgotten d = withCounters (withSram (withRegs d freshRegs) freshSram) freshCounters
+forgotten d = withEvents (withCounters (withSram (withRegs d freshRegs) freshSram) freshCounters) (noCounts (d .events))
 
 -- P9, P10, P13. VBATEN decides which.
 abbrev pub clockCut : Device → Device

@@ -54,17 +54,19 @@ fn watchdog_cut(d: Device) -> Device
     next
 }
 
-// Without it: registers, SRAM and counts are as fresh.
+// Without it: registers, SRAM and counts are as fresh. The levels of the event inputs stay.
 fn forgotten_clock(d: Device) -> Device
     ensures { λ r. ⌜ r ≡ forgotten d ⌝ }
 {
     let regs = record::fresh_regs();
     let counters = record::fresh_counters();
     let sram = [0u8; 64];
+    let events = events::pins::no_counts(d.events);
     let mut next = d;
     next.regs = regs;
     next.sram = sram;
     next.counters = counters;
+    next.events = events;
     next
 }
 

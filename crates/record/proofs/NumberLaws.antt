@@ -10,7 +10,8 @@ use Rattle.record.specs.declared.Protection.the-variants.{Nothing, Quart
 use Rattle.record.specs.declared.Lock.{Lock}
 use Rattle.record.specs.declared.Lock.the-variants.{Closed, First, Open}
 use Rattle.record.specs.declared.Act.{Act}
-use Rattle.record.specs.declared.Act.the-variants.{Select, Byte, End, Wait, Cut, Up}
+use Rattle.record.specs.declared.Act.the-variants.{Select, Byte, End, Wait, Cut, Up, Set}
+use Rattle.record.specs.declared.Pin.the-variants.{Evls, Evhs}
 use Rattle.record.specs.declared.Place.{Place}
 use Rattle.record.specs.declared.Place.the-variants.{EepromAt, ClockAt, IdAt}
 use Rattle.record.specs.declared.Pair.{Pair}
@@ -49,6 +50,8 @@ act-back End = refl
 act-back Wait = refl
 act-back Cut = refl
 act-back Up = refl
+act-back (Set Evls) = refl
+act-back (Set Evhs) = refl
 
 pub place-back : (p : Place) → placeOf (placeKind p) (placeValue p) ≡ p
 place-back (EepromAt a) = refl

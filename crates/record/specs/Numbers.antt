@@ -9,7 +9,9 @@ use Rattle.record.specs.declared.Protection.the-variants.{Nothing, Quart
 use Rattle.record.specs.declared.Lock.{Lock}
 use Rattle.record.specs.declared.Lock.the-variants.{Closed, First, Open}
 use Rattle.record.specs.declared.Act.{Act}
-use Rattle.record.specs.declared.Act.the-variants.{Select, Byte, End, Wait, Cut, Up}
+use Rattle.record.specs.declared.Act.the-variants.{Select, Byte, End, Wait, Cut, Up, Set}
+use Rattle.record.specs.declared.Pin.{Pin}
+use Rattle.record.specs.declared.Pin.the-variants.{Evls, Evhs}
 use Rattle.record.specs.declared.Place.{Place}
 use Rattle.record.specs.declared.Place.the-variants.{EepromAt, ClockAt, IdAt}
 use Rattle.record.specs.declared.Pair.{Pair}
@@ -43,6 +45,11 @@ lockNumber Open = 2
 abbrev pub lockOf : ℕ → Lock
 lockOf n = pick (eqb n 0) Closed (pick (eqb n 1) First Open)
 
+-- V1. the pins behind the acts without one
+abbrev pub pinNumber : Pin → ℕ
+pinNumber Evls = 6
+pinNumber Evhs = 7
+
 -- A1. the acts in their order
 abbrev pub actNumber : Act → ℕ
 actNumber Select = 0
@@ -51,9 +58,14 @@ actNumber End = 2
 actNumber Wait = 3
 actNumber Cut = 4
 actNumber Up = 5
+actNumber (Set p) = pinNumber p
+
+-- how many there are
+abbrev pub actCount : ℕ
+actCount = 8
 
 abbrev pub actOf : ℕ → Act
-actOf n = pick (eqb n 0) Select (pick (eqb n 1) Byte (pick (eqb n 2) End (pick (eqb n 3) Wait (pick (eqb n 4) Cut Up))))
+actOf n = pick (eqb n 0) Select (pick (eqb n 1) Byte (pick (eqb n 2) End (pick (eqb n 3) Wait (pick (eqb n 4) Cut (pick (eqb n 5) Up (pick (eqb n 6) (Set Evls) (Set Evhs)))))))
 
 -- a driven byte by its value; none, which no byte is
 abbrev pub replyNumber : Reply → ℕ

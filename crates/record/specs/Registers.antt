@@ -39,6 +39,9 @@ controlAt = 0x08
 abbrev pub watchdogAt : ℕ
 watchdogAt = 0x0a
 
+abbrev pub eventAt : ℕ
+eventAt = 0x0b
+
 -- the register of each alarm's flag, code and pin
 abbrev pub alarm0At : ℕ
 alarm0At = 0x0f

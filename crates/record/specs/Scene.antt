@@ -10,6 +10,7 @@ use Rattle.record.specs.declared.Protection.the-variants.{Nothing}
 use Rattle.record.specs.declared.Lock.the-variants.{Closed}
 use Rattle.record.specs.declared.Stage.the-variants.{Idle}
 use Rattle.record.specs.declared.Target.the-variants.{Eeprom}
+use Rattle.record.specs.Fresh.{freshEvents}
 
 -- a chip with these registers and counts, power on, no frame and no cycle; every byte of SRAM 07h
 abbrev pub chip : List ℕ → Counters → Device
@@ -24,6 +25,7 @@ chip regs c =
       frame = record { stage = Idle };
       load = record { offsets = 0; bytes = replicate 8 0; next = 0 };
       cycle = record { target = Eeprom (record { 0 = 0 }); left = 0 };
+      events = freshEvents;
     }
 
 -- the registers with ST set and the rest 0

@@ -3,6 +3,9 @@
 use mathlib.Core.Bool.{Bool}
 use mathlib.Core.List.{List}
 use Prim.Native.Nat.{ℕ}
+use lib.ListN.{getD, set}
+use Rattle.events.specs.declared.Events.{Events}
+use Rattle.events.specs.declared.Inputs.{Inputs}
 use Rattle.record.specs.declared.Device.{Device}
 use Rattle.record.specs.declared.Counters.{Counters}
 use Rattle.record.specs.declared.Guard.{Guard}
@@ -11,9 +14,10 @@ use Rattle.record.specs.declared.Lock.{Lock}
 use Rattle.record.specs.declared.Cycle.{Cycle}
 use Rattle.record.specs.declared.Protection.{Protection}
 use Rattle.record.specs.declared.Stage.{Stage}
+use Rattle.record.specs.Registers.{eventAt}
 
-abbrev device : List ℕ → List ℕ → Counters → Bool → Bool → Guard → Stage → Load → Cycle → Device
-device regs sram counters power mark guard stage load cycle =
+abbrev device : List ℕ → List ℕ → Counters → Bool → Bool → Guard → Stage → Load → Cycle → Events → Device
+device regs sram counters power mark guard stage load cycle events =
     record {
       regs = regs;
       sram = sram;
@@ -24,34 +28,45 @@ device regs sram counters power mark guard stage load cycle =
       frame = record { stage = stage };
       load = load;
       cycle = cycle;
+      events = events;
     }
 
 abbrev pub withRegs : Device → List ℕ → Device
-withRegs d regs = device regs (d .sram) (d .counters) (d .power) (d .mark) (d .guard) (d .frame .stage) (d .load) (d .cycle)
+withRegs d regs = device regs (d .sram) (d .counters) (d .power) (d .mark) (d .guard) (d .frame .stage) (d .load) (d .cycle) (d .events)
 
 abbrev pub withSram : Device → List ℕ → Device
-withSram d sram = device (d .regs) sram (d .counters) (d .power) (d .mark) (d .guard) (d .frame .stage) (d .load) (d .cycle)
+withSram d sram = device (d .regs) sram (d .counters) (d .power) (d .mark) (d .guard) (d .frame .stage) (d .load) (d .cycle) (d .events)
 
 abbrev pub withCounters : Device → Counters → Device
-withCounters d counters = device (d .regs) (d .sram) counters (d .power) (d .mark) (d .guard) (d .frame .stage) (d .load) (d .cycle)
+withCounters d counters = device (d .regs) (d .sram) counters (d .power) (d .mark) (d .guard) (d .frame .stage) (d .load) (d .cycle) (d .events)
 
 abbrev pub withPower : Device → Bool → Device
-withPower d power = device (d .regs) (d .sram) (d .counters) power (d .mark) (d .guard) (d .frame .stage) (d .load) (d .cycle)
+withPower d power = device (d .regs) (d .sram) (d .counters) power (d .mark) (d .guard) (d .frame .stage) (d .load) (d .cycle) (d .events)
 
 abbrev pub withMark : Device → Bool → Device
-withMark d mark = device (d .regs) (d .sram) (d .counters) (d .power) mark (d .guard) (d .frame .stage) (d .load) (d .cycle)
+withMark d mark = device (d .regs) (d .sram) (d .counters) (d .power) mark (d .guard) (d .frame .stage) (d .load) (d .cycle) (d .events)
 
 abbrev pub withGuard : Device → Guard → Device
-withGuard d guard = device (d .regs) (d .sram) (d .counters) (d .power) (d .mark) guard (d .frame .stage) (d .load) (d .cycle)
+withGuard d guard = device (d .regs) (d .sram) (d .counters) (d .power) (d .mark) guard (d .frame .stage) (d .load) (d .cycle) (d .events)
 
 abbrev pub withStage : Device → Stage → Device
-withStage d stage = device (d .regs) (d .sram) (d .counters) (d .power) (d .mark) (d .guard) stage (d .load) (d .cycle)
+withStage d stage = device (d .regs) (d .sram) (d .counters) (d .power) (d .mark) (d .guard) stage (d .load) (d .cycle) (d .events)
 
 abbrev pub withLoad : Device → Load → Device
-withLoad d load = device (d .regs) (d .sram) (d .counters) (d .power) (d .mark) (d .guard) (d .frame .stage) load (d .cycle)
+withLoad d load = device (d .regs) (d .sram) (d .counters) (d .power) (d .mark) (d .guard) (d .frame .stage) load (d .cycle) (d .events)
 
 abbrev pub withCycle : Device → Cycle → Device
-withCycle d cycle = device (d .regs) (d .sram) (d .counters) (d .power) (d .mark) (d .guard) (d .frame .stage) (d .load) cycle
+withCycle d cycle = device (d .regs) (d .sram) (d .counters) (d .power) (d .mark) (d .guard) (d .frame .stage) (d .load) cycle (d .events)
+
+abbrev pub withEvents : Device → Events → Device
+withEvents d events = device (d .regs) (d .sram) (d .counters) (d .power) (d .mark) (d .guard) (d .frame .stage) (d .load) (d .cycle) events
+
+-- V3. The event inputs with the byte of 0Bh, taken out of the record and put back.
+abbrev pub inputsOf : Device → Inputs
+inputsOf d = record { events = d .events; control = getD (d .regs) eventAt 0 }
+
+abbrev pub withInputs : Device → Inputs → Device
+withInputs d s = withEvents (withRegs d (set (d .regs) eventAt (s .control))) (s .events)
 
 -- single counts; `counts` has them in the record's order: divider, start-up, and the watchdog's count, delay and pulse
 abbrev pub counts : ℕ → ℕ → ℕ → ℕ → ℕ → Counters

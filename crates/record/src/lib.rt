@@ -1,5 +1,6 @@
 // The chip's record: what a chip is between two acts. The registers and the SRAM are held in it by value; the two
 // memories, EEPROM and ID, are lent to each act and are no part of it.
+use events::Events;
 use registers::DATE;
 use registers::DAY;
 use registers::MONTH;
@@ -8,6 +9,7 @@ ghost use Rattle.record.specs.Fresh.{freshRegs, freshCounters, fresh};
 
 pub mod address; // address.rt: how an address is taken and rolls over
 pub mod codes; // codes.rt: instruction codes
+pub mod inputs; // inputs.rt: the event inputs with the byte of 0Bh
 pub mod number; // number.rt: the numbers of the enums' cases
 pub mod part; // part.rt: the four parts
 pub mod registers; // registers.rt: the registers' addresses and masks, the limits
@@ -163,6 +165,7 @@ pub struct Device {
     pub frame: Frame,
     pub load: Load,
     pub cycle: Cycle,
+    pub events: Events,
 }
 
 // The answer on SO: what is driven, the byte of an exchange or the bits of one that an end broke off; or none, where SO is off or no bit was
@@ -172,7 +175,13 @@ pub enum Reply {
     Off,
 }
 
-// The six acts.
+// The event inputs' pins.
+pub enum Pin {
+    Evls,
+    Evhs,
+}
+
+// The acts: six, and the level of a pin set.
 pub enum Act {
     Select,
     Byte,
@@ -180,6 +189,7 @@ pub enum Act {
     Wait,
     Cut,
     Up,
+    Set(Pin),
 }
 
 // The registers of a fresh chip: 0, but day, date and month 01h.
@@ -232,6 +242,13 @@ pub fn fresh_device() -> Device
         cycle: Cycle {
             target: Target::Eeprom(EepromAddress(0)),
             left: 0,
+        },
+        events: Events {
+            door: 0,
+            drum: 0,
+            edges: 0,
+            since: 0,
+            debounce: 0,
         },
     }
 }

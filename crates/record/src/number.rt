@@ -1,8 +1,12 @@
 // The numbers of the cases of the enums that come from a byte: acts, the protection bits.
 use crate::Act;
+use crate::Pin;
 use crate::Protection;
 ghost use mathlib.Core.Path.{_≡_};
 ghost use Rattle.record.specs.Numbers.{actOf, protectionOf, protectionNumber};
+
+// How many acts there are.
+pub const ACTS: u8 = 8;
 
 // The acts in their order.
 pub fn act_of(n: u8) -> Act
@@ -14,7 +18,9 @@ pub fn act_of(n: u8) -> Act
         2 => Act::End,
         3 => Act::Wait,
         4 => Act::Cut,
-        _ => Act::Up,
+        5 => Act::Up,
+        6 => Act::Set(Pin::Evls),
+        _ => Act::Set(Pin::Evhs),
     }
 }
 

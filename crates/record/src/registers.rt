@@ -27,6 +27,8 @@ pub const CONTROL: usize = 0x08;
 
 pub const WATCHDOG: usize = 0x0a;
 
+pub const EVENT: usize = 0x0b;
+
 // The alarms: their hours, the register of their flag, and what only one of them has.
 pub const ALARM_0_HOURS: usize = 0x0e;
 

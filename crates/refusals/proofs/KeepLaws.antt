@@ -12,19 +12,23 @@ use Rattle.base.specs.Words.{bit, every}
 use Rattle.base.proofs.Every.{bound-below}
 use Rattle.base.proofs.BitLaws.{below-mask, inside-and, and-or}
 use Rattle.base.proofs.StoreLaws.{set-case}
+use Rattle.events.specs.declared.Events.{Events}
+use Rattle.events.specs.declared.Inputs.{Inputs}
+use Rattle.events.specs.Rows.{EventsIn}
+use Rattle.events.proofs.EmbedLaws.{Embeds}
 use Rattle.record.specs.declared.Device.{Device}
 use Rattle.record.specs.declared.Counters.{Counters}
 use Rattle.record.specs.declared.Guard.{Guard}
 use Rattle.record.specs.Part.{bootsOf}
-use Rattle.record.specs.Registers.{st, secondsAt, minutesAt, dayAt, dateAt, watchdogAt, powerDownAt, kept, periodOf, startupTicks, dividerTicks, longPulse, delayTicks}
-use Rattle.record.specs.Setters.{withRegs, withSram, withCounters, withDivider, withStartup, withWatchdog, withDelay, withPulse, withGuard, withLeft}
+use Rattle.record.specs.Registers.{st, secondsAt, minutesAt, dayAt, dateAt, watchdogAt, eventAt, powerDownAt, kept, periodOf, startupTicks, dividerTicks, longPulse, delayTicks}
+use Rattle.record.specs.Setters.{withRegs, withSram, withCounters, withDivider, withStartup, withWatchdog, withDelay, withPulse, withGuard, withLeft, withEvents, inputsOf, withInputs}
 use Rattle.record.specs.Stamps.{stamped, unstamped, withVbat, withoutVbat}
 use Rattle.record.proofs.StampLaws.{stamp-mask, stamped-each, unstamped-each}
 use Rattle.refusals.specs.InRange.{ClockRange, InRange}
 
--- the range of a device's registers and counts, and the three facts of it that read a register
+-- the range of a device's registers, counts and event inputs, and the four facts of it that read a register
 abbrev pub ClockOf : Bool → Device → Type 0
-ClockOf boots d = ClockRange boots (d .regs) (d .counters)
+ClockOf boots d = ClockRange boots (d .regs) (d .counters) (d .events)
 
 abbrev pub Inside : ℕ → ℕ → Type 0
 Inside k v = bitAnd v (getD kept k 0) ≡ v
@@ -38,42 +42,65 @@ Paced c regs = c .watchdog < periodOf (getD regs watchdogAt 0)
 abbrev pub Halted : Bool → Counters → List ℕ → Type 0
 Halted boots c regs = boots ≡ false → st regs ≡ false → c .startup ≡ 0
 
+abbrev pub Signalled : Events → List ℕ → Type 0
+Signalled e regs = EventsIn (getD regs eventAt 0) e
+
 module _ (boots : Bool) (d : Device) (r : ClockOf boots d) where
   pub divider-in : (n : ℕ) → n < dividerTicks → ClockOf boots (withDivider d n)
   divider-in n h =
-      record { divider = h; startup = r .startup; pulse = r .pulse; delay = r .delay; watchdog = r .watchdog; stopped = r .stopped; inside = r .inside }
+      record { divider = h; startup = r .startup; pulse = r .pulse; delay = r .delay; watchdog = r .watchdog; stopped = r .stopped; inside = r .inside; events = r .events }
 
   pub startup-in : (n : ℕ) → n ≤ startupTicks → (boots ≡ false → st (d .regs) ≡ false → n ≡ 0) → ClockOf boots (withStartup d n)
   startup-in n h s =
-      record { divider = r .divider; startup = h; pulse = r .pulse; delay = r .delay; watchdog = r .watchdog; stopped = s; inside = r .inside }
+      record { divider = r .divider; startup = h; pulse = r .pulse; delay = r .delay; watchdog = r .watchdog; stopped = s; inside = r .inside; events = r .events }
 
   pub watchdog-in : (n : ℕ) → n < periodOf (getD (d .regs) watchdogAt 0) → ClockOf boots (withWatchdog d n)
   watchdog-in n h =
-      record { divider = r .divider; startup = r .startup; pulse = r .pulse; delay = r .delay; watchdog = h; stopped = r .stopped; inside = r .inside }
+      record { divider = r .divider; startup = r .startup; pulse = r .pulse; delay = r .delay; watchdog = h; stopped = r .stopped; inside = r .inside; events = r .events }
 
   pub delay-in : (n : ℕ) → n ≤ delayTicks → ClockOf boots (withDelay d n)
   delay-in n h =
-      record { divider = r .divider; startup = r .startup; pulse = r .pulse; delay = h; watchdog = r .watchdog; stopped = r .stopped; inside = r .inside }
+      record { divider = r .divider; startup = r .startup; pulse = r .pulse; delay = h; watchdog = r .watchdog; stopped = r .stopped; inside = r .inside; events = r .events }
 
   pub pulse-in : (n : ℕ) → n ≤ longPulse → ClockOf boots (withPulse d n)
   pulse-in n h =
-      record { divider = r .divider; startup = r .startup; pulse = h; delay = r .delay; watchdog = r .watchdog; stopped = r .stopped; inside = r .inside }
+      record { divider = r .divider; startup = r .startup; pulse = h; delay = r .delay; watchdog = r .watchdog; stopped = r .stopped; inside = r .inside; events = r .events }
 
-  pub regs-in : (regs : List ℕ) → AllInside regs → Paced (d .counters) regs → Halted boots (d .counters) regs → ClockOf boots (withRegs d regs)
-  regs-in regs i p h =
-      record { divider = r .divider; startup = r .startup; pulse = r .pulse; delay = r .delay; watchdog = p; stopped = h; inside = i }
+  pub regs-in : (regs : List ℕ) → AllInside regs → Paced (d .counters) regs → Halted boots (d .counters) regs → Signalled (d .events) regs
+      → ClockOf boots (withRegs d regs)
+  regs-in regs i p h e =
+      record { divider = r .divider; startup = r .startup; pulse = r .pulse; delay = r .delay; watchdog = p; stopped = h; inside = i; events = e }
 
-  -- registers that leave 01h and 0Ah, which the counts read
+  pub events-in : (e : Events) → Signalled e (d .regs) → ClockOf boots (withEvents d e)
+  events-in e h =
+      record { divider = r .divider; startup = r .startup; pulse = r .pulse; delay = r .delay; watchdog = r .watchdog; stopped = r .stopped; inside = r .inside; events = h }
+
+  -- registers that leave 01h, 0Ah and 0Bh, which the counts read
   pub regs-beside-in :
       (regs : List ℕ) → AllInside regs → getD regs watchdogAt 0 ≡ getD (d .regs) watchdogAt 0 → getD regs secondsAt 0 ≡ getD (d .regs) secondsAt 0
-      → ClockOf boots (withRegs d regs)
-  regs-beside-in regs i p h =
+      → getD regs eventAt 0 ≡ getD (d .regs) eventAt 0 → ClockOf boots (withRegs d regs)
+  regs-beside-in regs i p h e =
       regs-in regs i (subst (λ (v : ℕ). d .counters .watchdog < periodOf v) (sym p) (r .watchdog))
       (subst (λ (v : ℕ). boots ≡ false → bit v 7 ≡ false → d .counters .startup ≡ 0) (sym h) (r .stopped))
+      (subst (λ (v : ℕ). EventsIn v (d .events)) (sym e) (r .events))
 
 -- a register whose new value is inside its mask
 pub set-inside : (regs : List ℕ) (a v : ℕ) → Inside a v → AllInside regs → AllInside (set regs a v)
 set-inside regs a v p q k h = set-case (Inside k) regs a k v (λ e. subst (λ (j : ℕ). Inside j v) (sym e) p) (q k h)
+
+-- the byte of 0Bh is the whole byte, and no count but the inputs' reads it
+pub inputs-in : (boots : Bool) (d : Device) → ClockOf boots d → (s : Inputs) → Embeds (getD (d .regs) eventAt 0) s → ClockOf boots (withInputs d s)
+inputs-in boots d r s e =
+    record {
+      divider = r .divider;
+      startup = r .startup;
+      pulse = r .pulse;
+      delay = r .delay;
+      watchdog = set-case (λ (v : ℕ). d .counters .watchdog < periodOf v) (d .regs) eventAt watchdogAt (s .control) (λ q. absurd (omega arith)) (r .watchdog);
+      stopped = set-case (λ (v : ℕ). boots ≡ false → bit v 7 ≡ false → d .counters .startup ≡ 0) (d .regs) eventAt secondsAt (s .control) (λ q. absurd (omega arith)) (r .stopped);
+      inside = set-inside (d .regs) eventAt (s .control) (below-mask 8 (omega arith) (s .control) (e .byte) (e .byte)) (r .inside);
+      events = set-case (λ (v : ℕ). EventsIn v (s .events)) (d .regs) eventAt eventAt (s .control) (λ q. e .new) (e .old);
+    }
 
 -- of a time-stamp every byte is inside
 stamp-byte : (k v : ℕ) → powerDownAt ≤ k → k < 32 → v < 256 → Inside k v
@@ -106,7 +133,7 @@ with-vbat-inside regs i =
 pub without-vbat-inside : (regs : List ℕ) → AllInside regs → AllInside (withoutVbat regs)
 without-vbat-inside regs i = set-inside regs dayAt _ (inside-and (getD regs dayAt 0) 0xef 0x1f (i dayAt (omega arith))) i
 
--- e has all of d but registers, SRAM and counts
+-- e has all of d but registers, SRAM, counts and event inputs
 pub record Beside (d e : Device) : Type 0 where
   pub power : e .power ≡ d .power
   pub mark : e .mark ≡ d .mark
@@ -115,8 +142,8 @@ pub record Beside (d e : Device) : Type 0 where
   pub load : e .load ≡ d .load
   pub cycle : e .cycle ≡ d .cycle
 
--- a device with other registers, SRAM and counts
-pub beside : (d : Device) {regs sram : List ℕ} {counters : Counters} → Beside d (withCounters (withSram (withRegs d regs) sram) counters)
+-- a device with other registers, SRAM, counts and event inputs
+pub beside : (d : Device) {regs sram : List ℕ} {counters : Counters} {e : Events} → Beside d (withEvents (withCounters (withSram (withRegs d regs) sram) counters) e)
 beside d = record { power = refl; mark = refl; guard = refl; frame = refl; load = refl; cycle = refl }
 
 -- the other subjects read nothing else

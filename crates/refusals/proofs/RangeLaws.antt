@@ -9,9 +9,13 @@ use mathlib.Core.Bool.{Bool, true, false, not, _&&_, _||_}
 use mathlib.Core.List.{List, [], _∷_}
 use borrow.Author.Tests.{lt-ltb, lt-leb, ltb-true, ltb-false, leb-true, leb-false, eqb-true, eqb-false, not-true, not-false}
 use lib.Dec.{ltb, leb}
+use lib.ListN.{getD}
 use Rattle.base.specs.Words.{every}
 use Rattle.base.proofs.Tests.{by-cases, both-left, both-right, both-true, either, neither-left, neither-right, true-false, none-holds, some-holds}
 use Rattle.base.proofs.Every.{every-at, every-miss}
+use Rattle.events.specs.declared.Events.{Events}
+use Rattle.events.specs.Range.{eventsOut}
+use Rattle.events.proofs.RangeLaws.{events-in, events-row, events-out}
 use Rattle.record.specs.declared.Device.{Device}
 use Rattle.record.specs.declared.Counters.{Counters}
 use Rattle.record.specs.declared.Cycle.{Cycle}
@@ -24,7 +28,7 @@ use Rattle.record.specs.declared.Place.{Place}
 use Rattle.record.specs.declared.Place.the-variants.{EepromAt, ClockAt, IdAt}
 use Rattle.record.specs.declared.Stage.{Stage}
 use Rattle.record.specs.Part.{isPart, sizeOf, bootsOf}
-use Rattle.record.specs.Registers.{st, cycleTicks, startupTicks, dividerLast, longPulse, delayTicks}
+use Rattle.record.specs.Registers.{st, eventAt, cycleTicks, startupTicks, dividerLast, longPulse, delayTicks}
 use Rattle.record.specs.Fresh.{fresh, freshRegs}
 use Rattle.record.specs.Codes.{isCode, heardUnderWip}
 use Rattle.record.specs.Stages.{selected, heard, codeAt, foreignToWip, framePlace, cyclePlace, idPointer, eepromPointer}
@@ -32,16 +36,18 @@ use Rattle.record.proofs.CodeLaws.{same-code}
 use Rattle.record.proofs.StageLaws.{idle, not-idle}
 use Rattle.refusals.specs.Range.{insideMask, bitOutside, clockTests, frameTests, cycleTests, powerTests, clockOut, frameOut, cycleOut, powerOut, rangeTests, outOfRange}
 use Rattle.refusals.specs.InRange.{ClockRange, PlaceRange, FrameRange, CycleRange, PowerRange, InRange}
-use Rattle.refusals.specs.Rows.{Pointer, frame, cycle, Five, srread-five, read-five, write-five, clrwdt-five, clrram-five, RangeRow, divider, startup, countdown, pulse, delay, watchdog, offset, idPointer as idRow, eepromPointer as eepromRow, outside, stopped, marked, unpowered, foreign}
+use Rattle.refusals.specs.Rows.{Pointer, frame, cycle, Five, srread-five, read-five, write-five, clrwdt-five, clrram-five, RangeRow, divider, startup, countdown, pulse, delay, watchdog, offset, idPointer as idRow, eepromPointer as eepromRow, outside, stopped, marked, unpowered, foreign, event}
 
 -- the first of a conjunction that fails holds: the second fails
 other-fails : {a b : Bool} → (a && b) ≡ false → a ≡ true → b ≡ false
 other-fails e p = rw p at e
 
 -- What a record in range has, subject by subject.
-clock-range : (boots : Bool) (regs : List ℕ) (c : Counters) → clockOut boots regs c ≡ false → ClockRange boots regs c
+clock-range :
+    (boots : Bool) (regs : List ℕ) (c : Counters) (e : Events) → clockOut boots regs c ≡ false → eventsOut (getD regs eventAt 0) e ≡ false
+    → ClockRange boots regs c e
 unfolding clockOut bitOutside
-clock-range boots regs c e =
+clock-range boots regs c v e o =
     let (dividerOk, (startupOk, (pulseOk, (delayOk, (watchdogOk, (stoppedOk, (insideOk, _))))))) = none-holds (clockTests boots regs c) e in
     record {
       divider = omega (arith, ltb-false dividerLast (c .divider) dividerOk);
@@ -51,6 +57,7 @@ clock-range boots regs c e =
       watchdog = leb-false _ (c .watchdog) watchdogOk;
       stopped = λ w t. omega (arith, ltb-false 0 (c .startup) (other-fails stoppedOk (both-true (ap not w) (ap not t))));
       inside = λ k h. eqb-true _ _ (every-at (insideMask regs) 32 (not-false _ insideOk) k h);
+      events = events-in (getD regs eventAt 0) v o;
     }
 
 place-range : (size : ℕ) (p : Place) → ltb 15 (idPointer p) ≡ false → leb size (eepromPointer p) ≡ false → PlaceRange size p
@@ -83,9 +90,9 @@ power-range power mark s y e =
 pub in-range : (part : ℕ) (d : Device) → outOfRange part d ≡ false → InRange part d
 unfolding outOfRange
 in-range part d e =
-    let (clockOk, (frameOk, (cycleOk, (powerOk, _)))) = none-holds (rangeTests part d) e in
+    let (clockOk, (frameOk, (cycleOk, (powerOk, (eventsOk, _))))) = none-holds (rangeTests part d) e in
     record {
-      clock = clock-range (bootsOf part) (d .regs) (d .counters) clockOk;
+      clock = clock-range (bootsOf part) (d .regs) (d .counters) (d .events) clockOk eventsOk;
       frame = frame-range (sizeOf part) (d .frame .stage) (d .load) frameOk;
       cycle = cycle-range (sizeOf part) (d .cycle) cycleOk;
       power = power-range (d .power) (d .mark) (d .frame .stage) (d .cycle) powerOk;
@@ -151,6 +158,7 @@ module _ (part : ℕ) (d : Device) where
   no-row r (marked o m) = true-false m (r .power .unmarked o)
   no-row r (unpowered o (inl s)) = s (idle (d .frame .stage) (r .power .idle o))
   no-row r (unpowered o (inr h)) = omega (arith, r .power .still o)
+  no-row r (event v) = true-false (events-row (getD (d .regs) eventAt 0) (d .events) .1 v) (events-out (getD (d .regs) eventAt 0) (d .events) (r .clock .events))
   no-row r (foreign h e n) = true-false (foreign-test (d .frame .stage) e n) (r .power .heard h)
 
   -- the row of a record out of range, subject by subject
@@ -237,9 +245,12 @@ module _ (part : ℕ) (d : Device) where
         ),
       )
 
+  event-row : eventsOut (getD (d .regs) eventAt 0) (d .events) ≡ true → RangeRow part d
+  event-row e = event (events-row (getD (d .regs) eventAt 0) (d .events) .0 e)
+
   some-row : outOfRange part d ≡ true → RangeRow part d
   unfolding outOfRange
-  some-row e = some-holds (rangeTests part d) e (clock-row, (frame-row, (cycle-row, (power-row, tt))))
+  some-row e = some-holds (rangeTests part d) e (clock-row, (frame-row, (cycle-row, (power-row, (event-row, tt)))))
 
   pub out-of-range : InRange part d → outOfRange part d ≡ false
   out-of-range r = by-cases (outOfRange part d) (λ t. absurd (no-row r (some-row t))) (λ f. f)
@@ -262,6 +273,7 @@ fresh-facts part =
             watchdog = omega arith;
             stopped = λ w t. refl;
             inside = λ k h. eqb-true _ _ (every-at (insideMask freshRegs) 32 refl k h);
+            events = record { door = omega arith; drum = omega arith; edges = omega arith; since = omega arith; none = λ z. refl; debounce = omega arith; low = λ z. refl; high-off = λ o. refl; low-off = λ o. refl };
           };
       frame = record { offset = omega arith; place = record { id = omega arith; eeprom = omega arith } };
       cycle = record { countdown = omega arith; place = record { id = omega arith; eeprom = omega arith } };

@@ -12,9 +12,10 @@ use lib.Dec.{leb, eqb, lit<}
 use Rattle.base.specs.Words.{pick, every}
 use Rattle.base.proofs.Tests.{by-cases, both-left, both-right, either, neither-left, neither-right, true-false, row}
 use Rattle.base.proofs.Every.{every-at}
+use Rattle.events.specs.Range.{windowOut, debounceOut, eventsOut}
 use Rattle.record.specs.declared.Device.{Device}
 use Rattle.record.specs.declared.Act.{Act}
-use Rattle.record.specs.declared.Act.the-variants.{Select, Byte, End, Wait, Cut, Up}
+use Rattle.record.specs.declared.Act.the-variants.{Select, Byte, End, Wait, Cut, Up, Set}
 use Rattle.record.specs.declared.Stage.{Stage}
 use Rattle.record.specs.declared.Stage.the-variants.{Idle, Opened}
 use Rattle.record.specs.Part.{isPart, sizeOf, idSize}
@@ -25,7 +26,7 @@ use Rattle.record.specs.Stages.{selected}
 use Rattle.record.proofs.StageLaws.{idle, not-idle}
 use Rattle.refusals.specs.Range.{clockOut, frameOut, cycleOut, powerOut, bitOutside, outOfRange}
 use Rattle.refusals.specs.Refusal.{wrongLength, wrongArg, wrongPower, wrongSelect, firstRefusal, refusalOf, setupRefusal, actRefusal}
-use Rattle.refusals.specs.Rows.{PartRow, LengthRow, RangeRow, ArgRow, leftover, wait, byte, mask, select, up, PowerRow, select-off, byte-off, end-off, cut-off, up-on, SelectedRow, select-again, NotSelectedRow, byte-alone, end-alone, Row, table, First, TableGives}
+use Rattle.refusals.specs.Rows.{PartRow, LengthRow, RangeRow, ArgRow, leftover, wait, byte, mask, select, up, level, PowerRow, select-off, byte-off, end-off, cut-off, up-on, SelectedRow, select-again, NotSelectedRow, byte-alone, end-alone, Row, table, First, TableGives}
 use Rattle.refusals.proofs.RangeLaws.{range-row}
 
 -- Each row is what its test says.
@@ -61,6 +62,7 @@ arg-told End n e = leftover (ltb-true 7 n e)
 arg-told Wait n e = wait {n = n} (omega (arith, ltb-true waitLimit n e))
 arg-told Cut n e = mask (ltb-true 255 n e)
 arg-told Up n e = up (eqb-false n 0 (not-true (eqb n 0) e))
+arg-told (Set p) n e = level (ltb-true 1 n e)
 
 arg-given : {act : Act} {n : ℕ} → ArgRow act n → wrongArg act n ≡ true
 arg-given (leftover h) = lt-ltb _ _ h
@@ -69,6 +71,7 @@ arg-given (byte h) = lt-ltb _ _ h
 arg-given (mask h) = lt-ltb _ _ h
 arg-given (select h) = ap not (ne-eqb _ 0 h)
 arg-given (up h) = ap not (ne-eqb _ 0 h)
+arg-given (level h) = lt-ltb _ _ h
 
 power-told : (act : Act) (d : Device) → wrongPower act (d .power) ≡ true → PowerRow act d
 power-told Select d e = select-off (not-true (d .power) e)
@@ -77,6 +80,7 @@ power-told End d e = end-off (not-true (d .power) e)
 power-told Wait d e = absurd (false≢true e)
 power-told Cut d e = cut-off (not-true (d .power) e)
 power-told Up d e = up-on e
+power-told (Set p) d e = absurd (false≢true e)
 
 power-given : {act : Act} {d : Device} → PowerRow act d → wrongPower act (d .power) ≡ true
 power-given (select-off h) = ap not h
@@ -123,6 +127,7 @@ last-rows End d false e = alone End d (ap (wrongSelect End) e) (end-alone (idle 
 last-rows Wait d t e = no-last Wait d refl
 last-rows Cut d t e = no-last Cut d refl
 last-rows Up d t e = no-last Up d refl
+last-rows (Set p) d t e = no-last (Set p) d refl
 
 -- The theorem: the number that answers an act is the table's,
 pub answered : (part : ℕ) (act : Act) (n : ℕ) (d : Device) (ee id : ℕ) → TableGives part act n d ee id (refusalOf part act n d ee id)
@@ -264,18 +269,20 @@ ready End = readyWith true Opened
 ready Wait = fresh
 ready Cut = fresh
 ready Up = readyWith false Idle
+ready (Set p) = fresh
 
 abbrev readyAnswer : Act → ℕ → ℕ
 readyAnswer act part = refusalOf part act 0 (ready act) (sizeOf part) idSize
 
 each-part : (act : Act) → every (λ (k : ℕ). eqb (pick (isPart k) (readyAnswer act k) 0) 0) 5 ≡ true
-unfolding every refusalOf outOfRange clockOut frameOut cycleOut powerOut bitOutside fresh
+unfolding every refusalOf outOfRange clockOut frameOut cycleOut powerOut bitOutside eventsOut windowOut debounceOut fresh
 each-part Select = refl
 each-part Byte = refl
 each-part End = refl
 each-part Wait = refl
 each-part Cut = refl
 each-part Up = refl
+each-part (Set p) = refl
 
 -- each part accepts each act
 pub shown : (part : ℕ) → isPart part ≡ true → (act : Act) → refusalOf part act 0 (ready act) (sizeOf part) idSize ≡ 0

@@ -7,6 +7,8 @@ use mathlib.Core.Bool.{Bool, true, false}
 use mathlib.Core.List.{List}
 use lib.Bits.{bitAnd}
 use lib.ListN.{getD}
+use Rattle.events.specs.declared.Events.{Events}
+use Rattle.events.specs.Rows.{EventsIn}
 use Rattle.record.specs.declared.Device.{Device}
 use Rattle.record.specs.declared.Counters.{Counters}
 use Rattle.record.specs.declared.Load.{Load}
@@ -14,11 +16,11 @@ use Rattle.record.specs.declared.Cycle.{Cycle}
 use Rattle.record.specs.declared.Place.{Place}
 use Rattle.record.specs.declared.Stage.{Stage}
 use Rattle.record.specs.Part.{sizeOf, bootsOf}
-use Rattle.record.specs.Registers.{st, watchdogAt, kept, periodOf, cycleTicks, startupTicks, dividerTicks, longPulse, delayTicks}
+use Rattle.record.specs.Registers.{st, watchdogAt, eventAt, kept, periodOf, cycleTicks, startupTicks, dividerTicks, longPulse, delayTicks}
 use Rattle.record.specs.Stages.{selected, foreignToWip, framePlace, cyclePlace, idPointer, eepromPointer}
 
--- registers and counts
-pub record ClockRange (boots : Bool) (regs : List ℕ) (c : Counters) : Type 0 where
+-- registers, counts and event inputs
+pub record ClockRange (boots : Bool) (regs : List ℕ) (c : Counters) (e : Events) : Type 0 where
   pub divider : c .divider < dividerTicks
   pub startup : c .startup ≤ startupTicks
   pub pulse : c .pulse ≤ longPulse
@@ -26,6 +28,7 @@ pub record ClockRange (boots : Bool) (regs : List ℕ) (c : Counters) : Type 0 w
   pub watchdog : c .watchdog < periodOf (getD regs watchdogAt 0)
   pub stopped : boots ≡ false → st regs ≡ false → c .startup ≡ 0
   pub inside : (k : ℕ) → k < 32 → bitAnd (getD regs k 0) (getD kept k 0) ≡ getD regs k 0
+  pub events : EventsIn (getD regs eventAt 0) e
 
 -- a pointer, of a frame or of a cycle
 pub record PlaceRange (size : ℕ) (p : Place) : Type 0 where
@@ -51,7 +54,7 @@ pub record PowerRange (power mark : Bool) (s : Stage) (y : Cycle) : Type 0 where
 
 -- R7. All of it; every act keeps it.
 pub record InRange (part : ℕ) (d : Device) : Type 0 where
-  pub clock : ClockRange (bootsOf part) (d .regs) (d .counters)
+  pub clock : ClockRange (bootsOf part) (d .regs) (d .counters) (d .events)
   pub frame : FrameRange (sizeOf part) (d .frame .stage) (d .load)
   pub cycle : CycleRange (sizeOf part) (d .cycle)
   pub power : PowerRange (d .power) (d .mark) (d .frame .stage) (d .cycle)

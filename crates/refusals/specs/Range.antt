@@ -1,5 +1,5 @@
 -- Number 6: the record is out of range. Each row of its list is a test over the fields that it reads; the tests are lists by subject: clock, frame,
--- cycle, power. All answer 6, so their order tells nothing, and a further row is one more member of a list. A record that no row names is in
+-- cycle, power; those of the event inputs (V14) are the events' own. All answer 6, so their order tells nothing, and a further row is one more member of a list. A record that no row names is in
 -- range and answers as a chip. Every EEPROM and ID pointer is judged, in use or not; a clock address never is.
 -- Assumes nothing.
 use Prim.Native.Nat.{ℕ}
@@ -9,6 +9,7 @@ use lib.Dec.{ltb, leb, eqb}
 use lib.Bits.{bitAnd}
 use lib.ListN.{getD}
 use Rattle.base.specs.Words.{every, anyOf}
+use Rattle.events.specs.Range.{eventsOut}
 use Rattle.record.specs.declared.Device.{Device}
 use Rattle.record.specs.declared.Counters.{Counters}
 use Rattle.record.specs.declared.Load.{Load}
@@ -16,7 +17,7 @@ use Rattle.record.specs.declared.Cycle.{Cycle}
 use Rattle.record.specs.declared.Place.{Place}
 use Rattle.record.specs.declared.Stage.{Stage}
 use Rattle.record.specs.Part.{sizeOf, bootsOf}
-use Rattle.record.specs.Registers.{st, watchdogAt, kept, periodOf, cycleTicks, startupTicks, dividerLast, longPulse, delayTicks}
+use Rattle.record.specs.Registers.{st, watchdogAt, eventAt, kept, periodOf, cycleTicks, startupTicks, dividerLast, longPulse, delayTicks}
 use Rattle.record.specs.Stages.{selected, foreignToWip, framePlace, cyclePlace, idPointer, eepromPointer}
 
 -- A18. the divider
@@ -107,13 +108,14 @@ cycleOut size y = anyOf (cycleTests size y)
 unfoldable pub powerOut : Bool → Bool → Stage → Cycle → Bool
 powerOut power mark s y = anyOf (powerTests power mark s y)
 
--- the four subjects of a record
+-- the five subjects of a record
 abbrev pub rangeTests : ℕ → Device → List Bool
 rangeTests part d =
     clockOut (bootsOf part) (d .regs) (d .counters)
     ∷ frameOut (sizeOf part) (d .frame .stage) (d .load)
     ∷ cycleOut (sizeOf part) (d .cycle)
     ∷ powerOut (d .power) (d .mark) (d .frame .stage) (d .cycle)
+    ∷ eventsOut (getD (d .regs) eventAt 0) (d .events)
     ∷ []
 
 -- number 6: some row holds

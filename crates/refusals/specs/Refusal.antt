@@ -7,7 +7,7 @@ use lib.Dec.{ltb, eqb}
 use Rattle.base.specs.Words.{pick}
 use Rattle.record.specs.declared.Device.{Device}
 use Rattle.record.specs.declared.Act.{Act}
-use Rattle.record.specs.declared.Act.the-variants.{Select, Byte, End, Wait, Cut, Up}
+use Rattle.record.specs.declared.Act.the-variants.{Select, Byte, End, Wait, Cut, Up, Set}
 use Rattle.record.specs.Part.{isPart, sizeOf, idSize}
 use Rattle.record.specs.Registers.{waitLimit}
 use Rattle.record.specs.Stages.{selected}
@@ -17,7 +17,7 @@ use Rattle.refusals.specs.Range.{outOfRange}
 abbrev pub wrongLength : ℕ → ℕ → ℕ → Bool
 wrongLength part ee id = not (eqb ee (sizeOf part)) || not (eqb id idSize)
 
--- 3, A10, A11, A12, A13. the act does not take the argument
+-- 3, A10, A11, A12, A13, V1. the act does not take the argument
 abbrev pub wrongArg : Act → ℕ → Bool
 wrongArg Select arg = not (eqb arg 0)
 wrongArg Byte arg = ltb 255 arg
@@ -25,6 +25,7 @@ wrongArg End arg = ltb 7 arg
 wrongArg Wait arg = ltb waitLimit arg
 wrongArg Cut arg = ltb 255 arg
 wrongArg Up arg = not (eqb arg 0)
+wrongArg (Set p) arg = ltb 1 arg
 
 -- 5, A16, A17. the act does not go with the power
 abbrev pub wrongPower : Act → Bool → Bool
@@ -34,6 +35,7 @@ wrongPower End power = not power
 wrongPower Wait power = false
 wrongPower Cut power = not power
 wrongPower Up power = power
+wrongPower (Set p) power = false
 
 -- 1, A8. selected twice; 2, A9. a byte or an end without a frame
 abbrev pub wrongSelect : Act → Bool → ℕ
@@ -43,6 +45,7 @@ wrongSelect End sel = pick sel 0 2
 wrongSelect Wait sel = 0
 wrongSelect Cut sel = 0
 wrongSelect Up sel = 0
+wrongSelect (Set p) sel = 0
 
 -- the order of the table; 0 where no row holds
 abbrev pub firstRefusal : Bool → Bool → Bool → Bool → Bool → ℕ → ℕ

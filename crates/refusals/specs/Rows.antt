@@ -9,6 +9,7 @@ use mathlib.Core.Bool.{true, false}
 use mathlib.Core.List.{List, [], _∷_}
 use lib.Bits.{bitAnd}
 use lib.ListN.{getD}
+use Rattle.events.specs.Rows.{EventRow}
 use Rattle.record.specs.declared.Device.{Device}
 use Rattle.record.specs.declared.EepromAddress.{EepromAddress}
 use Rattle.record.specs.declared.IdAddress.{IdAddress}
@@ -18,9 +19,10 @@ use Rattle.record.specs.declared.Place.{Place}
 use Rattle.record.specs.declared.Place.the-variants.{EepromAt, IdAt}
 use Rattle.record.specs.declared.Stage.the-variants.{Idle}
 use Rattle.record.specs.declared.Act.{Act}
-use Rattle.record.specs.declared.Act.the-variants.{Select, Byte, End, Wait, Cut, Up}
+use Rattle.record.specs.declared.Act.the-variants.{Select, Byte, End, Wait, Cut, Up, Set}
+use Rattle.record.specs.declared.Pin.{Pin}
 use Rattle.record.specs.Part.{sizeOf}
-use Rattle.record.specs.Registers.{st, watchdogAt, kept, periodOf}
+use Rattle.record.specs.Registers.{st, watchdogAt, eventAt, kept, periodOf}
 use Rattle.record.specs.Stages.{heard, codeAt, framePlace, cyclePlace}
 
 -- 3, A14. the part is none of the four
@@ -81,8 +83,10 @@ pub data RangeRow (part : ℕ) (d : Device) : Type 0 where
   unpowered : d .power ≡ false → Selected d ⊎ (0 < d .cycle .left) → RangeRow part d
   -- A30. a cycle, and an open frame that could not have been heard in it
   foreign : 0 < d .cycle .left → heard (d .frame .stage) ≡ true → ¬ Five (codeAt (d .frame .stage)) → RangeRow part d
+  -- V14. levels and counts of the event inputs
+  event : EventRow (getD (d .regs) eventAt 0) (d .events) → RangeRow part d
 
--- 3, A10, A11, A12, A13. the act does not take the argument
+-- 3, A10, A11, A12, A13, V1. the act does not take the argument
 pub data ArgRow : Act → ℕ → Type 0 where
   leftover : {n : ℕ} → 7 < n → ArgRow End n
   wait : {n : ℕ} → 16777216 < n → ArgRow Wait n
@@ -90,6 +94,7 @@ pub data ArgRow : Act → ℕ → Type 0 where
   mask : {n : ℕ} → 255 < n → ArgRow Cut n
   select : {n : ℕ} → n ≢ 0 → ArgRow Select n
   up : {n : ℕ} → n ≢ 0 → ArgRow Up n
+  level : {p : Pin} {n : ℕ} → 1 < n → ArgRow (Set p) n
 
 -- 5, A16, A17. the act does not go with the power
 pub data PowerRow : Act → Device → Type 0 where

@@ -30,6 +30,7 @@ fn wrong_arg(act: Act, arg: u64) -> bool
         Act::Wait => WAIT_LIMIT < arg,
         Act::Cut => 255 < arg,
         Act::Up => arg != 0,
+        Act::Set(_) => 1 < arg,
     }
 }
 
@@ -43,6 +44,7 @@ fn wrong_power(act: Act, power: bool) -> bool
         Act::Wait => false,
         Act::Cut => !power,
         Act::Up => power,
+        Act::Set(_) => false,
     }
 }
 
@@ -56,6 +58,7 @@ fn wrong_select(act: Act, selected: bool) -> u8
         Act::Wait => 0,
         Act::Cut => 0,
         Act::Up => 0,
+        Act::Set(_) => 0,
     }
 }
 

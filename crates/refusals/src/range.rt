@@ -11,6 +11,7 @@ use record::registers;
 use record::registers::CYCLE_TICKS;
 use record::registers::DELAY_TICKS;
 use record::registers::DIVIDER_LAST;
+use record::registers::EVENT;
 use record::registers::LONG_PULSE;
 use record::registers::SECONDS;
 use record::registers::ST;
@@ -94,8 +95,10 @@ pub fn out_of_range(part: u64, d: Device) -> bool
     let stage = frame.stage;
     let load = d.load;
     let cycle = d.cycle;
+    let events = d.events;
     clock_out(boots, regs, counters)
         | frame_out(size, stage, load)
         | cycle_out(size, cycle)
         | power_out(d.power, d.mark, stage, cycle)
+        | events::range::events_out(regs[EVENT], events)
 }

@@ -16,15 +16,18 @@ use Rattle.base.proofs.Tests.{pick-case, pick-when, true-false}
 use Rattle.base.proofs.Every.{same-below}
 use Rattle.base.proofs.BitLaws.{over-inside}
 use Rattle.base.proofs.StoreLaws.{set-case}
+use Rattle.events.specs.Pins.{noCounts}
+use Rattle.events.specs.Rows.{EventsIn}
+use Rattle.events.proofs.EmbedLaws.{counts-none}
 use Rattle.record.specs.declared.Device.{Device}
 use Rattle.record.specs.declared.ClockAddress.{ClockAddress}
 use Rattle.record.specs.Part.{bootsOf}
-use Rattle.record.specs.Registers.{st, vbat, wdten, wdtif, wddel, secondsAt, dayAt, watchdogAt, powerDownAt, writable, kept, periodOf, delayTicks}
-use Rattle.record.specs.Setters.{withRegs, withSram, withStartup, withWatchdog, withDelay}
+use Rattle.record.specs.Registers.{st, vbat, wdten, wdtif, wddel, secondsAt, dayAt, watchdogAt, eventAt, powerDownAt, writable, kept, periodOf, delayTicks}
+use Rattle.record.specs.Setters.{withRegs, withSram, withStartup, withWatchdog, withDelay, withEvents}
 use Rattle.record.proofs.PeriodLaws.{period-least}
 use Rattle.record.proofs.StampLaws.{unstamped-length, unstamped-other}
 use Rattle.refusals.specs.InRange.{InRange}
-use Rattle.refusals.proofs.KeepLaws.{ClockOf, Inside, AllInside, Paced, Halted, startup-in, watchdog-in, delay-in, regs-in, regs-beside-in, set-inside, unstamped-inside, without-vbat-inside, Beside, beside, in-range-beside}
+use Rattle.refusals.proofs.KeepLaws.{ClockOf, Inside, AllInside, Paced, Halted, Signalled, startup-in, events-in, watchdog-in, delay-in, regs-in, regs-beside-in, set-inside, unstamped-inside, without-vbat-inside, Beside, beside, in-range-beside}
 use Rattle.registers.specs.Write.{delayAfter, dayWritten, afterWrite, underMask, writeClock}
 
 -- What holds of what each kind of WRITE leaves, holds of what WRITE leaves: a register's write with what follows from it; an SRAM byte; nothing.
@@ -45,7 +48,8 @@ write-beside boots d a v =
     (λ s h e.
     pick-case (Beside d) (eqb (a .0) secondsAt) (pick-case (Beside d) (not boots && not (st (set (d .regs) (a .0) s))) (beside d) (beside d))
     (pick-case (Beside d) (eqb (a .0) dayAt) (beside d)
-    (pick-case (Beside d) (eqb (a .0) watchdogAt) (beside d) (beside d))))
+    (pick-case (Beside d) (eqb (a .0) watchdogAt) (beside d)
+    (pick-case (Beside d) (eqb (a .0) eventAt) (beside d) (beside d)))))
     (λ k. beside d) (beside d)
 
 -- what follows from a write is a matter of counts and, at 04h, of VBAT and the time-stamps: no SRAM byte changes, and of other registers none
@@ -56,7 +60,7 @@ unfolding afterWrite
 after-case P boots before a d p q =
     let Q : Device → Type 0 = λ e. P (e .regs) × (e .sram ≡ d .sram) in
     pick-case Q (eqb a secondsAt) (pick-case Q (not boots && not (st (d .regs))) (p, refl) (p, refl))
-    (pick-when Q (eqb a dayAt) (λ t. (q (eqb-true a dayAt t), refl)) (λ t. pick-case Q (eqb a watchdogAt) (p, refl) (p, refl)))
+    (pick-when Q (eqb a dayAt) (λ t. (q (eqb-true a dayAt t), refl)) (λ t. pick-case Q (eqb a watchdogAt) (p, refl) (pick-case Q (eqb a eventAt) (p, refl) (p, refl))))
 
 day-length : (before : Bool) (regs : List ℕ) → length (dayWritten before regs) ≡ length regs
 day-length before regs =
@@ -107,35 +111,46 @@ day-in boots before d r =
     let regs : List ℕ = d .regs in
     regs-beside-in boots d r (dayWritten before regs) (day-inside before regs (r .inside))
     (day-other before regs watchdogAt (omega arith) (λ z. omega arith)) (day-other before regs secondsAt (omega arith) (λ z. omega arith))
+    (day-other before regs eventAt (omega arith) (λ z. omega arith))
 
 -- What follows from a write keeps it in range, over the registers as the write left them; before it they were others.
 after-in :
     (boots before : Bool) (a : ℕ) (old : List ℕ) (d : Device) → ClockOf boots (withRegs d old) → AllInside (d .regs)
-    → (a ≢ watchdogAt → Paced (d .counters) (d .regs)) → (a ≢ secondsAt → Halted boots (d .counters) (d .regs)) → ClockOf boots (afterWrite boots before a d)
+    → (a ≢ watchdogAt → Paced (d .counters) (d .regs)) → (a ≢ secondsAt → Halted boots (d .counters) (d .regs))
+    → (a ≢ eventAt → Signalled (d .events) (d .regs)) → ClockOf boots (afterWrite boots before a d)
 unfolding afterWrite
-after-in boots before a old d r i paced halted =
+after-in boots before a old d r i paced halted signalled =
     let o : Device = withRegs d old in
     pick-when (ClockOf boots) (eqb a secondsAt)
     (λ e.
     let n : a ≢ watchdogAt = λ q. omega (arith, eqb-true a secondsAt e) in
+    let g : a ≢ eventAt = λ q. omega (arith, eqb-true a secondsAt e) in
     pick-when (ClockOf boots) (not boots && not (st (d .regs)))
-    (λ t. regs-in boots (withStartup o 0) (startup-in boots o r 0 (omega arith) (λ b z. refl)) (d .regs) i (paced n) (λ b z. refl))
-    (λ t. regs-in boots o r (d .regs) i (paced n) (λ b z. absurd (true-false (simp (b, z)) t))))
+    (λ t. regs-in boots (withStartup o 0) (startup-in boots o r 0 (omega arith) (λ b z. refl)) (d .regs) i (paced n) (λ b z. refl) (signalled g))
+    (λ t. regs-in boots o r (d .regs) i (paced n) (λ b z. absurd (true-false (simp (b, z)) t)) (signalled g)))
     (λ e.
     let m : a ≢ secondsAt = eqb-false a secondsAt e in
     pick-when (ClockOf boots) (eqb a dayAt)
     (λ q.
     let n : a ≢ watchdogAt = λ z. omega (arith, eqb-true a dayAt q) in
-    day-in boots before d (regs-in boots o r (d .regs) i (paced n) (halted m)))
+    let g : a ≢ eventAt = λ z. omega (arith, eqb-true a dayAt q) in
+    day-in boots before d (regs-in boots o r (d .regs) i (paced n) (halted m) (signalled g)))
     (λ q.
     pick-when (ClockOf boots) (eqb a watchdogAt)
     (λ w.
     let v : ℕ = getD (d .regs) watchdogAt 0 in
+    let g : a ≢ eventAt = λ z. omega (arith, eqb-true a watchdogAt w) in
     let l : delayAfter v ≤ delayTicks = pick-case (λ (n : ℕ). n ≤ delayTicks) ((wdten v && wddel v) && not (wdtif v)) (omega arith) (omega arith) in
     regs-in boots (withDelay (withWatchdog o 0) (delayAfter v))
     (delay-in boots (withWatchdog o 0) (watchdog-in boots o r 0 (omega (arith, period-least (getD old watchdogAt 0)))) (delayAfter v) l)
-    (d .regs) i (omega (arith, period-least v)) (halted m))
-    (λ w. regs-in boots o r (d .regs) i (paced (eqb-false a watchdogAt w)) (halted m))))
+    (d .regs) i (omega (arith, period-least v)) (halted m) (signalled g))
+    (λ w.
+    pick-when (ClockOf boots) (eqb a eventAt)
+    (λ g.
+    let none : (v : ℕ) → EventsIn v (noCounts (d .events)) = λ v. counts-none v (d .events) (r .events .door) (r .events .drum) in
+    regs-in boots (withEvents o (noCounts (d .events))) (events-in boots o r (noCounts (d .events)) (none (getD old eventAt 0)))
+    (d .regs) i (paced (eqb-false a watchdogAt w)) (halted m) (none (getD (d .regs) eventAt 0)))
+    (λ g. regs-in boots o r (d .regs) i (paced (eqb-false a watchdogAt w)) (halted m) (signalled (eqb-false a eventAt g))))))
 
 -- a stored register and what follows from it
 after-write-in :
@@ -144,6 +159,7 @@ after-write-in boots before a s d i r =
     after-in boots before a (d .regs) (withRegs d (set (d .regs) a s)) r (set-inside (d .regs) a s i (r .inside))
     (λ n. set-case (λ (v : ℕ). d .counters .watchdog < periodOf v) (d .regs) a watchdogAt s (λ e. absurd (n (sym e))) (r .watchdog))
     (λ n. set-case (λ (v : ℕ). boots ≡ false → bit v 7 ≡ false → d .counters .startup ≡ 0) (d .regs) a secondsAt s (λ e. absurd (n (sym e))) (r .stopped))
+    (λ n. set-case (λ (v : ℕ). EventsIn v (d .events)) (d .regs) a eventAt s (λ e. absurd (n (sym e))) (r .events))
 
 -- WRITE keeps a record in range, at every address and of every value
 pub write-in-range :

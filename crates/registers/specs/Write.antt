@@ -8,11 +8,12 @@ use lib.Dec.{ltb, eqb}
 use lib.Bits.{bitAnd, bitOr}
 use lib.ListN.{getD, set}
 use Rattle.base.specs.Words.{pick}
+use Rattle.events.specs.Pins.{noCounts}
 use Rattle.record.specs.declared.Device.{Device}
 use Rattle.record.specs.declared.ClockAddress.{ClockAddress}
-use Rattle.record.specs.Registers.{st, vbat, wdten, wdtif, wddel, secondsAt, dayAt, watchdogAt, writable, delayTicks}
+use Rattle.record.specs.Registers.{st, vbat, wdten, wdtif, wddel, secondsAt, dayAt, watchdogAt, eventAt, writable, delayTicks}
 use Rattle.record.specs.Stamps.{unstamped, withoutVbat}
-use Rattle.record.specs.Setters.{withRegs, withSram, withStartup, withWatchdog, withDelay}
+use Rattle.record.specs.Setters.{withRegs, withSram, withStartup, withWatchdog, withDelay, withEvents}
 
 -- K27. The delay that a value of 0Ah sets: 64 s if WDTEN and WDDEL are set and WDTIF is clear, else none.
 abbrev pub delayAfter : ℕ → ℕ
@@ -27,11 +28,13 @@ dayWritten vbatBefore regs = pick (vbat regs) (pick vbatBefore regs (withoutVbat
 -- K4. ST cleared on a W part zeroes the start-up count, and with it OSCON.
 -- P16. VBAT may have to be put back, or the time-stamps cleared.
 -- K27. Any write of 0Ah zeroes the watchdog's count and sets the delay anew.
+-- V12. Any write of 0Bh zeroes the event inputs' counts.
 unfoldable pub afterWrite : Bool → Bool → ℕ → Device → Device
 afterWrite boots vbatBefore a d =
     pick (eqb a secondsAt) (pick (not boots && not (st (d .regs))) (withStartup d 0) d)
     (pick (eqb a dayAt) (withRegs d (dayWritten vbatBefore (d .regs)))
-    (pick (eqb a watchdogAt) (withDelay (withWatchdog d 0) (delayAfter (getD (d .regs) watchdogAt 0))) d))
+    (pick (eqb a watchdogAt) (withDelay (withWatchdog d 0) (delayAfter (getD (d .regs) watchdogAt 0)))
+    (pick (eqb a eventAt) (withEvents d (noCounts (d .events))) d)))
 
 -- F12. A byte written over another under a mask: the mask's bits are the new byte's, the others keep their value.
 abbrev pub underMask : ℕ → ℕ → ℕ → ℕ

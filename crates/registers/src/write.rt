@@ -4,6 +4,7 @@ use record::Device;
 use record::registers;
 use record::registers::DAY;
 use record::registers::DELAY_TICKS;
+use record::registers::EVENT;
 use record::registers::SECONDS;
 use record::registers::ST;
 use record::registers::VBAT;
@@ -44,7 +45,8 @@ fn day_written(vbat: bool, regs: [u8; 32]) -> [u8; 32]
     stamps::unstamped(regs)
 }
 
-// What follows from a register's write: 01h may stop the oscillator, 04h may clear VBAT, 0Ah restarts the watchdog.
+// What follows from a register's write: 01h may stop the oscillator, 04h may clear VBAT, 0Ah restarts the watchdog, 0Bh ends
+// what the event inputs count.
 fn after_write(boots: bool, vbat: bool, at: ClockAddress, d: Device) -> Device
     ensures { λ r. ⌜ r ≡ afterWrite boots vbat (at .0) d ⌝ }
 {
@@ -71,6 +73,12 @@ fn after_write(boots: bool, vbat: bool, at: ClockAddress, d: Device) -> Device
         counters.delay = delay_after(d.regs[WATCHDOG]);
         let mut next = d;
         next.counters = counters;
+        return next;
+    }
+    if a == EVENT {
+        let events = events::pins::no_counts(d.events);
+        let mut next = d;
+        next.events = events;
         return next;
     }
     d

@@ -37,6 +37,7 @@ use Rattle.ledger.specs.State.{Ledger, noByte, noCycle}
 use Rattle.ledger.specs.State as state
 use Rattle.ledger.specs.Frames.{running}
 use Rattle.ledger.specs.Steps as ledger
+use Rattle.refusals.proofs.KeepLaws.{Beside}
 use Rattle.run.proofs.Agree.{LockAgrees, FrameAgrees, TargetAgrees, CycleAgrees, StateAgrees, Agree}
 use Rattle.run.proofs.ByteAgrees.{byte-frame, byte-cycle}
 use Rattle.run.proofs.EndAgrees.{wel-agrees, lock-agrees, cycle-agrees}
@@ -51,6 +52,20 @@ module _ (s : World) (part : ℕ) (w : World) (l : Ledger) (a : Agree s part w l
   record-agrees : (e : Device) (m : Ledger) → m .entries ≡ l .entries → StateAgrees e m → Valid part (moved w e) → Agree s part (moved w e) m
   record-agrees e m q x v =
       record { valid = v; state = x; bytes = λ k p h. rw q (ap (λ (n : List ℕ). getD n p 0) (moved-memory k w e) ∙ a .bytes k p h) }
+
+  -- an act that leaves power, guard, frame, load, cycle and both memories alone, of which the ledger is told nothing: a pin is set
+  pub beside-agrees : (e : Device) → Beside d e → Valid part (moved w e) → Agree s part (moved w e) l
+  beside-agrees e b =
+      record-agrees e l refl
+      (record {
+        power = a .state .power ∙ sym (b .power);
+        chosen = a .state .chosen ∙ ap (λ (f : Frame). selected (f .stage)) (sym (b .frame));
+        wel = a .state .wel ∙ ap (λ (g : Guard). g .wel) (sym (b .guard));
+        bp = a .state .bp ∙ ap (λ (g : Guard). protectionNumber (g .protection)) (sym (b .guard));
+        lock = subst (λ (g : Guard). LockAgrees (g .lock) (l .lock)) (sym (b .guard)) (a .state .lock);
+        frame = rw (b .frame, b .load) (a .state .frame);
+        cycle = rw (b .cycle, b .load) (a .state .cycle);
+      })
 
   pub select-agrees : Valid part (moved w (afterSelect d)) → Agree s part (moved w (afterSelect d)) (ledger.onSelect l)
   unfolding afterSelect ledger.onSelect noByte

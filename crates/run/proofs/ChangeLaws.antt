@@ -15,7 +15,7 @@ use Rattle.base.specs.Wait.{Waited}
 use Rattle.base.specs.Words.{bit, storeUnder}
 use Rattle.base.proofs.Tests.{by-cases, both-left, both-right}
 use Rattle.record.specs.declared.Act.{Act}
-use Rattle.record.specs.declared.Act.the-variants.{Select, Byte, End, Wait, Cut, Up}
+use Rattle.record.specs.declared.Act.the-variants.{Select, Byte, End, Wait, Cut, Up, Set}
 use Rattle.record.specs.declared.Load.{Load}
 use Rattle.record.specs.declared.Target.{Target}
 use Rattle.record.specs.declared.Target.the-variants.{Eeprom, Id, Status}
@@ -112,6 +112,7 @@ accepted-changes part Select n w m p g c = absurd (c (ap (λ (l : List ℕ). get
 accepted-changes part Byte n w m p g c = absurd (c (ap (λ (l : List ℕ). getD l p 0) (moved-memory m w _)))
 accepted-changes part End n w m p g c = absurd (c (ap (λ (l : List ℕ). getD l p 0) (moved-memory m w _)))
 accepted-changes part Up n w m p g c = absurd (c (ap (λ (l : List ℕ). getD l p 0) (moved-memory m w _)))
+accepted-changes part (Set q) n w m p g c = absurd (c (ap (λ (l : List ℕ). getD l p 0) (moved-memory m w _)))
 
 pub changes-only : ChangesOnly
 unfolding ChangesOnly performed

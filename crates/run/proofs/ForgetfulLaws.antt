@@ -5,7 +5,7 @@ use Prim.Native.Nat.{ℕ, _<_}
 use native.Mathlib.Omega.{arith}
 use mathlib.Core.Path.{_≡_, refl, sym, ap, subst, _∙_}
 use mathlib.Core.Bool.{Bool, true, false, _&&_}
-use mathlib.Core.List.{List, [], _∷_}
+use mathlib.Core.List.{List, [], _∷_, _++_}
 use borrow.Author.Tests.{eqb-true, eqb-false}
 use lib.Dec.{eqb}
 use lib.ListN.{replicate}
@@ -13,7 +13,7 @@ use Rattle.base.specs.Wait.{waitedBy}
 use Rattle.base.specs.Words.{pick, every, storeUnder, members}
 use Rattle.base.proofs.Tests.{by-cases, pick-when, both-left, both-right, true-false}
 use Rattle.record.specs.declared.Act.{Act}
-use Rattle.record.specs.declared.Act.the-variants.{Select, Byte, End, Wait, Cut, Up}
+use Rattle.record.specs.declared.Act.the-variants.{Select, Byte, End, Wait, Cut, Up, Set}
 use Rattle.record.specs.declared.Cycle.{Cycle}
 use Rattle.record.specs.declared.Device.{Device}
 use Rattle.record.specs.declared.Guard.{Guard}
@@ -28,9 +28,13 @@ use Rattle.refusals.specs.Range.{outOfRange, clockOut, frameOut, cycleOut, powe
 use Rattle.refusals.specs.Refusal.{refusalOf}
 use Rattle.refusals.proofs.RangeLaws.{in-range}
 use Rattle.refusals.proofs.TableLaws as table
-use Rattle.ticks.specs.Lines.{irqLow, wdoLow, changed}
+use Rattle.events.specs.Control.{pullsIrq}
+use Rattle.events.specs.Tick.{eventsTick}
+use Rattle.events.specs.Range.{windowOut, debounceOut, eventsOut}
+use Rattle.ticks.specs.Lines.{irqLow, wdoLow, flagsChanged, changed}
 use Rattle.ticks.specs.Oscillator.{oscillatorTick}
 use Rattle.ticks.specs.Watchdog.{watchdogTick}
+use Rattle.ticks.specs.Event.{eventTick}
 use Rattle.ticks.specs.Clock.{calendarTick}
 use Rattle.ticks.specs.Tick.{cycleDevice, cycleTick, clockwork, tick, waited}
 use Rattle.ticks.proofs.WaitLaws.{wait-spent}
@@ -39,6 +43,7 @@ use Rattle.frames.proofs.FrameLaws.{written-beside}
 use Rattle.ends.specs.End.{afterEnd}
 use Rattle.ends.specs.Write.{dataFits, allowed, carried, cycleAfter, welAfter}
 use Rattle.ends.proofs.LatchLaws.{end-cleared}
+use Rattle.pins.proofs.SetLaws.{set-beside}
 use Rattle.power.specs.Power.{cutWorld, afterUp}
 use Rattle.power.proofs.PowerLaws.{cut-device, cut-beside}
 use Rattle.acts.specs.Act.{Outcome, accepted, refusalIn, performed}
@@ -47,7 +52,7 @@ use Rattle.ledger.specs.State.{Step, eeprom, noByte, noCycle, start}
 use Rattle.ledger.specs.Frames as frames
 use Rattle.ledger.specs.Bytes as bytes
 use Rattle.ledger.specs.Steps as steps
-use Rattle.run.specs.Claim.{Input, Stepped, Accounted, DemandThree, stepOf, ourChip, worldAfter, stepsOf}
+use Rattle.run.specs.Claim.{Input, Stepped, Accounted, DemandThree, told, ourChip, worldAfter, stepsOf}
 use Rattle.run.specs.Begin.{loadedBelow, ledgerOf, DemandThreeFrom}
 use Rattle.run.specs.Forgetful.{stilled, forgetfulChip, midCycle, fiveTicks, BegunRuns, SaysMore}
 use Rattle.run.proofs.LatchLaws.{wait-told}
@@ -104,6 +109,9 @@ accepted-latched part Cut arg w range e l =
     let gone : cutWorld arg w .device .cycle .left ≡ 0 =
     ap (λ (d : Device). d .cycle .left) (cut-device arg w) ∙ ap (λ (y : Cycle). y .left) (cut-beside arg (w .device) .cycle) in
     λ h. absurd (omega (arith, h, gone))
+accepted-latched part (Set p) arg w range e l =
+    let b = set-beside p arg (w .device) in
+    λ h. ap (λ (g : Guard). g .wel) (b .guard) ∙ l (subst (λ (y : Cycle). 0 < y .left) (b .cycle) h)
 accepted-latched part Up arg w range e l =
     let off : w .device .power ≡ false = table.accepted part Up arg (w .device) _ _ e .power in
     λ h. absurd (omega (arith, h, range .power .still off))
@@ -126,11 +134,11 @@ same-world w l =
 
 record SameRun (part : ℕ) (xs : List Input) (w : World) : Type 0 where
   after : worldAfter forgetfulChip part xs w ≡ worldAfter ourChip part xs w
-  told : stepsOf forgetfulChip part xs w ≡ stepsOf ourChip part xs w
+  same : stepsOf forgetfulChip part xs w ≡ stepsOf ourChip part xs w
 
 same-run : (part : ℕ) (xs : List Input) (w : World) → Valid part w → Latched (w .device) → SameRun part xs w
 unfolding worldAfter stepsOf forgetfulChip ourChip
-same-run part [] w v l = record { after = refl; told = refl }
+same-run part [] w v l = record { after = refl; same = refl }
 same-run part (x ∷ xs) w v l =
     let e : forgetfulChip part (x .act) (x .arg) w ≡ ourChip part (x .act) (x .arg) w = ap (ourChip part (x .act) (x .arg)) (same-world w l) in
     let o : Stepped = ourChip part (x .act) (x .arg) w in
@@ -138,9 +146,9 @@ same-run part (x ∷ xs) w v l =
     same-run part xs (o .after) (performed-valid part (x .act) (x .arg) w v) (step-latched part (x .act) (x .arg) w (v .range) l) in
     record {
       after = ap (λ (y : Stepped). worldAfter forgetfulChip part xs (y .after)) e ∙ r .after;
-      told =
-          ap (λ (y : Stepped). stepOf x (y .used) ∷ stepsOf forgetfulChip part xs (y .after)) e
-          ∙ ap (λ (ss : List Step). stepOf x (o .used) ∷ ss) (r .told);
+      same =
+          ap (λ (y : Stepped). told (x .act) (x .arg) (y .used) ++ stepsOf forgetfulChip part xs (y .after)) e
+          ∙ ap (λ (ss : List Step). told (x .act) (x .arg) (o .used) ++ ss) (r .same);
     }
 
 -- and the forgetful one has what ours has from fresh.
@@ -154,16 +162,16 @@ forgetful-from-fresh part known xs =
     let s : World = freshWorld part in
     let r = same-run part xs s (fresh-valid part) fresh-latched in
     subst (λ (v : World). Accounted part v (steps.ledgerRun part (stepsOf forgetfulChip part xs s) start)) (sym (r .after))
-    (subst (λ (ss : List Step). Accounted part (worldAfter ourChip part xs s) (steps.ledgerRun part ss start)) (sym (r .told)) (demand-three part known xs))
+    (subst (λ (ss : List Step). Accounted part (worldAfter ourChip part xs s) (steps.ledgerRun part ss start)) (sym (r .same)) (demand-three part known xs))
 
 -- The runs compute.
 pub begun-runs : BegunRuns
-unfolding BegunRuns worldAfter stepsOf forgetfulChip ourChip performed refusalOf outOfRange clockOut frameOut cycleOut powerOut bitOutside every fresh afterEnd carried cycleAfter welAfter waitedBy tick cycleTick cycleDevice clockwork changed irqLow wdoLow oscillatorTick watchdogTick calendarTick storeUnder members noByte noCycle loadedBelow ledgerOf frames.carried frames.cycleOf frames.welAfter frames.lockAfter bytes.isLoaded bytes.loadedByte bytes.entriesUnder bytes.entriesAfter bytes.bpAfter bytes.byteOf steps.refused steps.onEnd steps.ticked steps.waited steps.finished steps.onWait steps.follow steps.ledgerRun
+unfolding BegunRuns worldAfter stepsOf forgetfulChip ourChip performed refusalOf outOfRange clockOut frameOut cycleOut powerOut eventsOut windowOut debounceOut bitOutside every fresh afterEnd carried cycleAfter welAfter waitedBy tick cycleTick cycleDevice clockwork changed flagsChanged irqLow pullsIrq wdoLow oscillatorTick watchdogTick eventTick eventsTick calendarTick storeUnder members noByte noCycle loadedBelow ledgerOf frames.carried frames.cycleOf frames.welAfter frames.lockAfter bytes.isLoaded bytes.loadedByte bytes.entriesUnder bytes.entriesAfter bytes.bpAfter bytes.byteOf steps.refused steps.onEnd steps.ticked steps.waited steps.finished steps.onWait steps.follow steps.ledgerRun
 begun-runs = ((refl, refl), (refl, refl), (refl, refl), (refl, refl), (refl, refl), (refl, refl))
 
 -- the beginning is one of those that the claim speaks of
 mid-range : InRange 2 (midCycle .device)
-unfolding outOfRange clockOut frameOut cycleOut powerOut bitOutside every fresh
+unfolding outOfRange clockOut frameOut cycleOut powerOut eventsOut windowOut debounceOut bitOutside every fresh
 mid-range = in-range 2 (midCycle .device) refl
 
 mid-shaped : Shaped 2 midCycle

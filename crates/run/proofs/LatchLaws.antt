@@ -11,7 +11,8 @@ use lib.Dec.{eqb, leb}
 use Rattle.base.specs.Wait.{Waited}
 use Rattle.base.proofs.Tests.{by-cases, both-left, both-right, both-true, true-false}
 use Rattle.record.specs.declared.Act.{Act}
-use Rattle.record.specs.declared.Act.the-variants.{Select, Byte, End, Wait, Cut, Up}
+use Rattle.record.specs.declared.Pin.{Pin}
+use Rattle.record.specs.declared.Act.the-variants.{Select, Byte, End, Wait, Cut, Up, Set}
 use Rattle.record.specs.declared.Code.{Code}
 use Rattle.record.specs.declared.Code.the-variants.{Eewrdi, Eewren, Other, Srread}
 use Rattle.record.specs.declared.Device.{Device}
@@ -32,6 +33,7 @@ use Rattle.frames.proofs.AloneLaws.{Past, stage-past, first-begun, first-exactl
 use Rattle.frames.proofs.FrameLaws.{written-beside}
 use Rattle.ends.specs.End.{afterEnd}
 use Rattle.ends.proofs.LatchLaws.{end-cleared, end-set}
+use Rattle.pins.proofs.SetLaws.{set-beside}
 use Rattle.power.proofs.PowerLaws.{cut-device, cut-wel, up-wel}
 use Rattle.acts.specs.Act.{Outcome, accepted, refusalIn, performed}
 use Rattle.acts.proofs.OutcomeLaws.{by-acceptance, changed-by, done-passed}
@@ -84,6 +86,9 @@ module _ (part arg : ℕ) (w : World) where
   unfolding afterByte
   byte-same = ap (λ (g : Guard). g .wel) (written-beside (bootsOf part) d arg (d .frame .stage) .guard)
 
+  set-same : (p : Pin) → welOf (accepted part arg w (Set p) .after) ≡ welOf w
+  set-same p = ap (λ (g : Guard). g .wel) (set-beside p arg d .guard)
+
   cut-clear : welOf (accepted part arg w Cut .after) ≡ false
   cut-clear = ap (λ (x : Device). x .guard .wel) (cut-device arg w) ∙ cut-wel arg d
 
@@ -98,6 +103,7 @@ module _ (part arg : ℕ) (w : World) where
   told Wait r on e = let a = wait-told part arg w (passed-range part Wait arg w r) on e in completes refl (a .0) (a .1)
   told Cut r on e = cuts refl
   told Up r on e = ups refl
+  told (Set p) r on e = absurd (true≢false (sym on ∙ sym (set-same p) ∙ e))
 
   -- and each of the list clears it
   given :
@@ -126,6 +132,7 @@ module _ (part arg : ℕ) (w : World) where
   set-told Wait r off e = absurd (false≢true (sym (wait-leaves part arg w (passed-range part Wait arg w r) off) ∙ e))
   set-told Cut r off e = absurd (false≢true (sym cut-clear ∙ e))
   set-told Up r off e = absurd (false≢true (sym (up-wel d) ∙ e))
+  set-told (Set p) r off e = absurd (false≢true (sym off ∙ sym (set-same p) ∙ e))
 
   set-given : (act : Act) → welOf w ≡ false → EndsAlone Eewren act arg d → welOf (accepted part arg w act .after) ≡ true
   set-given act off e = rw (e .0) (end-set (topOf part) arg d off .1 (e .1, e .2))

@@ -10,16 +10,15 @@ use lib.ListN.{length}
 use Rattle.base.specs.Words.{pick}
 use Rattle.base.proofs.Tests.{pick-case, true-false}
 use Rattle.record.specs.declared.Act.{Act}
-use Rattle.record.specs.declared.Act.the-variants.{Select, Byte, End, Wait, Cut, Up}
+use Rattle.record.specs.declared.Act.the-variants.{Select, Byte, End, Wait, Cut, Up, Set}
 use Rattle.record.specs.Part.{isPart, sizeOf, idSize}
 use Rattle.record.specs.Stages.{selected}
 use Rattle.refusals.specs.Refusal.{wrongArg, wrongPower, wrongSelect, refusalOf}
 use Rattle.refusals.proofs.RangeLaws.{out-of-range}
 use Rattle.record.specs.World.{World}
 use Rattle.acts.specs.Act.{refusalIn}
-use Rattle.ledger.specs.State.{Ledger}
+use Rattle.ledger.specs.State.{Ledger, select, byte, end, wait, cut, up}
 use Rattle.ledger.specs.Steps.{refused}
-use Rattle.run.specs.Claim.{named}
 use Rattle.run.proofs.Agree.{Agree}
 
 -- what is left of the table for a part that is known, memories of its lengths and a record in range
@@ -52,8 +51,18 @@ two true y = refl
 two false true = refl
 two false false = refl
 
+-- what the ledger says to an act that it is told; of a pin it is told nothing, and the table has one row
+abbrev pub refusedBy : Act → ℕ → Ledger → Bool
+refusedBy Select n l = refused select n l
+refusedBy Byte n l = refused byte n l
+refusedBy End n l = refused end n l
+refusedBy Wait n l = refused wait n l
+refusedBy Cut n l = refused cut n l
+refusedBy Up n l = refused up n l
+refusedBy (Set p) n l = ltb 1 n || false || false
+
 -- the ledger refuses by the same argument, power and selection
-same-refusal : (act : Act) (n : ℕ) (l : Ledger) → eqb (short act n (l .power) (l .selected)) 0 ≡ not (refused (named act) n l)
+same-refusal : (act : Act) (n : ℕ) (l : Ledger) → eqb (short act n (l .power) (l .selected)) 0 ≡ not (refusedBy act n l)
 unfolding refused
 same-refusal Select n l = three (not (eqb n 0)) (not (l .power)) (l .selected)
 same-refusal Byte n l = three-not (ltb 255 n) (not (l .power)) (l .selected)
@@ -61,10 +70,11 @@ same-refusal End n l = three-not (ltb 7 n) (not (l .power)) (l .selected)
 same-refusal Wait n l = two (ltb 16777216 n) false
 same-refusal Cut n l = two (ltb 255 n) (not (l .power))
 same-refusal Up n l = two (not (eqb n 0)) (l .power)
+same-refusal (Set p) n l = two (ltb 1 n) false
 
 pub refusal-agrees :
     (s : World) (part : ℕ) (w : World) (l : Ledger) (act : Act) (n : ℕ) → isPart part ≡ true → Agree s part w l
-    → eqb (refusalIn part act n w) 0 ≡ not (refused (named act) n l)
+    → eqb (refusalIn part act n w) 0 ≡ not (refusedBy act n l)
 refusal-agrees s part w l act n p a =
     ap (λ (k : ℕ). eqb k 0) (shortened s part w l act n p a)
     ∙ rw (← a .state .power, ← a .state .chosen) (same-refusal act n l)
@@ -77,6 +87,7 @@ last-small End sel P p q r = pick-case P sel p r
 last-small Wait sel P p q r = p
 last-small Cut sel P p q r = p
 last-small Up sel P p q r = p
+last-small (Set a) sel P p q r = p
 
 pub never :
     (s : World) (part : ℕ) (w : World) (l : Ledger) (act : Act) (n k : ℕ) → isPart part ≡ true → Agree s part w l

@@ -5,7 +5,7 @@ use Prim.Native.Nat.{ℕ}
 use mathlib.Core.Path.{_≡_, refl, sym, ap, _∙_}
 use mathlib.Core.Bool.{true, false, _||_}
 use mathlib.Core.Logic.{_≢_}
-use mathlib.Core.List.{List, [], _∷_, _++_}
+use mathlib.Core.List.{List, [], _∷_, _++_, append-assoc}
 use lib.Dec.{eqb}
 use Rattle.record.specs.declared.Act.{Act}
 use Rattle.record.specs.Part.{isPart}
@@ -16,7 +16,7 @@ use Rattle.acts.proofs.ValidLaws.{Valid}
 use Rattle.acts.proofs.OutcomeLaws.{answered-by-table}
 use Rattle.ledger.specs.State.{Step, start}
 use Rattle.ledger.specs.Steps.{ledgerRun}
-use Rattle.run.specs.Claim.{Input, Chip, ourChip, worldAfter, stepsOf, stepOf, reached}
+use Rattle.run.specs.Claim.{Input, Chip, ourChip, worldAfter, stepsOf, told, reached}
 use Rattle.run.specs.Changes.{NeverAnswered}
 use Rattle.run.proofs.Agree.{Agree}
 use Rattle.run.proofs.FreshAgrees.{fresh-agrees}
@@ -35,7 +35,8 @@ module _ (chip : Chip) (part : ℕ) where
   steps-append [] ys w = refl
   steps-append (x ∷ xs) ys w =
       let o = chip part (x .act) (x .arg) w in
-      ap (λ (s : List Step). stepOf x (o .used) ∷ s) (steps-append xs ys (o .after))
+      ap (λ (s : List Step). told (x .act) (x .arg) (o .used) ++ s) (steps-append xs ys (o .after))
+      ∙ sym (append-assoc (told (x .act) (x .arg) (o .used)) (stepsOf chip part xs (o .after)) (stepsOf chip part ys (worldAfter chip part xs (o .after))))
 
 reached-agrees :
     (part : ℕ) → isPart part ≡ true → (xs : List Input)

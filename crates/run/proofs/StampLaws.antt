@@ -9,12 +9,14 @@ use mathlib.Core.Logic.{_⊎_, inl, inr, ⊎-elim, _≢_}
 use mathlib.Core.List.{List, [], _∷_}
 use borrow.Author.Tests.{eqb-true, eqb-false, ltb-true, ltb-false, not-false}
 use lib.Dec.{eqb, ltb}
+use lib.Seq.{getD-set-other}
 use lib.ListN.{length, getD}
 use Rattle.base.specs.Words.{bit}
 use Rattle.base.specs.Wait.{Waited}
 use Rattle.base.proofs.Tests.{by-cases, true-false}
 use Rattle.record.specs.declared.Act.{Act}
-use Rattle.record.specs.declared.Act.the-variants.{Select, Byte, End, Wait, Cut, Up}
+use Rattle.record.specs.declared.Pin.{Pin}
+use Rattle.record.specs.declared.Act.the-variants.{Select, Byte, End, Wait, Cut, Up, Set}
 use Rattle.record.specs.declared.Device.{Device}
 use Rattle.record.specs.declared.Place.{Place}
 use Rattle.record.specs.declared.Place.the-variants.{EepromAt, ClockAt, IdAt}
@@ -23,7 +25,7 @@ use Rattle.record.specs.declared.Stage.the-variants.{Idle, Opened, Unheard, Ins
 use Rattle.record.specs.Fresh.{fresh}
 use Rattle.record.specs.Numbers.{placeKind, placeValue, stageKind}
 use Rattle.record.specs.Part.{topOf, bootsOf}
-use Rattle.record.specs.Registers.{vbaten, vbat, dayAt}
+use Rattle.record.specs.Registers.{vbaten, vbat, dayAt, eventAt}
 use Rattle.record.specs.Stages.{framePlace}
 use Rattle.record.specs.Stamps.{toDay, NoStamps, Shows}
 use Rattle.record.specs.World.{World, Shaped, freshWorld}
@@ -39,6 +41,8 @@ use Rattle.frames.proofs.FrameLaws.{written-beside}
 use Rattle.replies.proofs.ReplyLaws.{stamp-reply}
 use Rattle.frames.proofs.StampLaws.{byte-stores, byte-clears, byte-leaves-vbat, byte-other-vbat, byte-stamps}
 use Rattle.ends.specs.End.{afterEnd}
+use Rattle.pins.specs.Set.{afterSet}
+use Rattle.pins.proofs.SetLaws.{set-beside, set-regs}
 use Rattle.power.specs.Power.{afterCut, cutWorld, afterUp}
 use Rattle.power.proofs.PowerLaws.{cut-device, cut-beside}
 use Rattle.power.proofs.StampLaws.{cut-mark, cut-stamps, cut-held, fresh-stamp, cut-lost, up-mark, up-stamps, up-leaves}
@@ -80,6 +84,15 @@ wait-stays part n w =
 cut-is : (P : Device → Type 0) (mask : ℕ) (w : World) → P (afterCut mask (w .device)) → P (cutWorld mask w .device)
 cut-is P mask w p = subst P (sym (cut-device mask w)) p
 
+-- A pin leaves them.
+set-stays : (p : Pin) (n : ℕ) (d : Device) → StampsStay d (afterSet p n d)
+set-stays p n d =
+    record {
+      stamps = λ k h. set-regs (λ (l : List ℕ). getD l k 0 ≡ getD (d .regs) k 0) p n d (λ v. getD-set-other (d .regs) eventAt k v 0 (λ e. omega arith));
+      vbat = set-regs (λ (l : List ℕ). vbat l ≡ vbat (d .regs)) p n d (λ v. ap (λ (x : ℕ). bit x 4) (getD-set-other (d .regs) eventAt dayAt v 0 (λ e. omega arith)));
+      mark = set-beside p n d .mark;
+    }
+
 -- What an accepted act changes.
 module _ (part arg : ℕ) (w : World) (z : Shaped part w) where
   size : length (w .device .regs) ≡ 32
@@ -110,6 +123,7 @@ module _ (part arg : ℕ) (w : World) (z : Shaped part w) where
       (λ l. fails refl t v (ltb-true k 0x1c l))
       (λ l. absurd (n (cut-is (λ (x : Device). getD (x .regs) k 0 ≡ getD (w .device .regs) k 0) arg w (cut-stamps arg (w .device) t v size .up k (ltb-false k 0x1c l)))))))
       (λ f. forgets refl f)
+  stamps-of (Set p) e k h n = absurd (n (set-stays p arg (w .device) .stamps k h))
   stamps-of Up e k h n =
       by-cases (w .device .mark)
       (λ t.
@@ -137,6 +151,7 @@ module _ (part arg : ℕ) (w : World) (z : Shaped part w) where
       (λ v. absurd (n (cut-is (λ (x : Device). vbat (x .regs) ≡ vbat (w .device .regs)) arg w (cut-held arg (w .device) t v .vbat ∙ sym v))))
       (λ v. fails refl t v (omega arith)))
       (λ f. forgets refl f)
+  vbat-of (Set p) e n = absurd (n (set-stays p arg (w .device) .vbat))
   vbat-of Up e n =
       by-cases (w .device .mark)
       (λ t. absurd (n (ap (λ (x : ℕ). bit x 4) (up-stamps (w .device) t size .others dayAt (omega arith)))))
@@ -152,6 +167,7 @@ mark-of part arg w End n = absurd (n refl)
 mark-of part arg w Wait n = absurd (n (wait-stays part arg w .mark))
 mark-of part arg w Cut n = inl refl
 mark-of part arg w Up n = inr refl
+mark-of part arg w (Set p) n = absurd (n (set-stays p arg (w .device) .mark))
 
 abbrev device-of : Outcome → Device
 device-of o = o .after .device
@@ -162,7 +178,7 @@ record Off (part : ℕ) (c v : World) : Type 0 where
   power : v .device .power ≡ false
   stay : StampsStay (c .device) (v .device)
 
--- one act but an up: a wait leaves them, and the others are refused
+-- one act but an up: a wait and a pin leave them, and the others are refused
 off-act :
     (part : ℕ) (act : Act) (arg : ℕ) (c v : World) → (act ≡ Up → arg ≢ 0) → Off part c v → Off part c (performed part act arg v .after)
 off-act part act arg c v n o =
@@ -184,6 +200,7 @@ off-act part act arg c v n o =
     kept End m a = never (a .power)
     kept Wait m a = (wait-spent part (bootsOf part) arg v (o .valid .range) .still .power ∙ o .power, stay-then (o .stay) (wait-stays part arg v))
     kept Cut m a = never (a .power)
+    kept (Set p) m a = (set-beside p arg (v .device) .power ∙ o .power, stay-then (o .stay) (set-stays p arg (v .device)))
     kept Up m a = absurd (m refl (eqb-true arg 0 (not-false (eqb arg 0) (a .arg))))
 
 off-acts : (part : ℕ) (c : World) (xs : List Input) (v : World) → NoUp xs → Off part c v → Off part c (worldAfter ourChip part xs v)
@@ -358,6 +375,7 @@ module _ (part arg : ℕ) (w : World) (v : Valid part w) (t : Settled (w .device
   settled-of Wait e = stay-settled (w .device) _ (wait-stays part arg w) t
   settled-of Cut e = cut-is Settled arg w cut-settled
   settled-of Up e = up-settled
+  settled-of (Set p) e = stay-settled (w .device) _ (set-stays p arg (w .device)) t
 
 settled-run : (part : ℕ) (xs : List Input) (w : World) → Valid part w → Settled (w .device) → Settled (worldAfter ourChip part xs w .device)
 unfolding worldAfter ourChip

@@ -21,7 +21,7 @@ use Rattle.record.specs.Fresh.{fresh}
 use Rattle.refusals.specs.Refusal.{wrongLength, setupRefusal}
 use Rattle.refusals.proofs.RangeLaws.{in-range, fresh-in-range}
 use Rattle.refusals.proofs.TableLaws.{setup-passed, setup-passes}
-use Rattle.record.specs.Numbers.{actOf}
+use Rattle.record.specs.Numbers.{actOf, actCount}
 use Rattle.record.specs.World.{World, world, Bytes, Sized, freshWorld}
 use Rattle.acts.specs.declared.Answer.{Answer}
 use Rattle.acts.specs.Act.{Outcome, performed, outcomeOf}
@@ -30,7 +30,7 @@ use Rattle.acts.proofs.ValidLaws.{Valid}
 use Rattle.ledger.specs.State.{Step, start}
 use Rattle.ledger.specs.Steps.{ledgerRun}
 use Rattle.run.specs.declared.Ran.{Ran}
-use Rattle.run.specs.Claim.{Input, Accounted, usedBy, ourChip, worldAfter, stepsOf, stepOf, DemandThree}
+use Rattle.run.specs.Claim.{Input, Accounted, usedBy, ourChip, worldAfter, stepsOf, told, DemandThree}
 use Rattle.run.specs.Begin.{ledgerOf, AccountedFrom, DemandThreeFrom}
 use Rattle.run.specs.Run.{refusesRun, inputsOf, inputsIn, numbersOf, ticksOf, stepsBy, Performed, Run, RunFrom}
 use Rattle.run.proofs.DemandThree.{demand-three}
@@ -43,7 +43,7 @@ inputsFrom i codes ns room = inputsOf (drop i codes) (drop i ns) (room - i)
 inputs-at :
     (i : ℕ) (codes ns : List ℕ) (room : ℕ) → i < length codes → i < length ns → i < room
     → inputsFrom i codes ns room
-    ≡ pick (ltb (getD codes i 0) 6) (record { act = actOf (getD codes i 0); arg = getD ns i 0 } ∷ inputsFrom (i + 1) codes ns room) []
+    ≡ pick (ltb (getD codes i 0) actCount) (record { act = actOf (getD codes i 0); arg = getD ns i 0 } ∷ inputsFrom (i + 1) codes ns room) []
 unfolding inputsOf
 inputs-at i codes ns room c n r =
     let left : room - i ≡ suc (room - (i + 1)) = omega arith in
@@ -51,9 +51,9 @@ inputs-at i codes ns room c n r =
 
 -- a code that names no act is the end
 pub inputs-none :
-    (i : ℕ) (codes ns : List ℕ) (room : ℕ) → i < length codes → i < length ns → i < room → 6 ≤ getD codes i 0
+    (i : ℕ) (codes ns : List ℕ) (room : ℕ) → i < length codes → i < length ns → i < room → actCount ≤ getD codes i 0
     → inputsFrom i codes ns room ≡ []
-inputs-none i codes ns room c n r h = inputs-at i codes ns room c n r ∙ rw (le-ltb (getD codes i 0) 6 h)
+inputs-none i codes ns room c n r h = inputs-at i codes ns room c n r ∙ rw (le-ltb (getD codes i 0) actCount h)
 
 -- and so is the end of a slice
 no-number : (codes : List ℕ) (room : ℕ) → inputsOf codes [] room ≡ []
@@ -129,12 +129,12 @@ pub left-turn :
     (part : ℕ) (xs : List Input) (answers₀ used₀ : List ℕ) (w₀ : World) (i : ℕ) (codes ns : List ℕ) (room : ℕ) (answers used : List ℕ) (w : World)
     (act : Act) (a : Answer) (u : ℕ) (ee id : List ℕ)
     → i < length codes → i < length ns → i < room → i < length answers → i < length used
-    → getD codes i 0 < 6 → act ≡ actOf (getD codes i 0) → outcomeOf a ee id ≡ performed part act (getD ns i 0) w → u ≡ usedBy act (a .count)
+    → getD codes i 0 < actCount → act ≡ actOf (getD codes i 0) → outcomeOf a ee id ≡ performed part act (getD ns i 0) w → u ≡ usedBy act (a .count)
     → Left part xs (inputsFrom i codes ns room) answers₀ used₀ w₀ i answers used w
     → Left part xs (inputsFrom (i + 1) codes ns room) answers₀ used₀ w₀ (i + 1) (set answers i (a .number)) (set used i u) (world (a .device) ee id)
 left-turn part xs answers₀ used₀ w₀ i codes ns room answers used w act a u ee id c n r s t h f e g l =
     let x : Input = record { act = actOf (getD codes i 0); arg = getD ns i 0 } in
-    let m = rw (lt-ltb (getD codes i 0) 6 h) at (inputs-at i codes ns room c n r) in
+    let m = rw (lt-ltb (getD codes i 0) actCount h) at (inputs-at i codes ns room c n r) in
     rw (g, f)
     (left-less part xs (inputsFrom (i + 1) codes ns room) x answers₀ used₀ w₀ i answers used w a ee id s t (rw f at e)
     (subst (λ (rest : List Input). Left part xs rest answers₀ used₀ w₀ i answers used w) m l))
@@ -160,7 +160,7 @@ steps-by :
 unfolding stepsOf stepsBy ticksOf
 steps-by part [] w more = refl
 steps-by part (x ∷ xs) w more =
-    ap (λ (ss : List Step). stepOf x (ourChip part (x .act) (x .arg) w .used) ∷ ss)
+    ap (λ (ss : List Step). told (x .act) (x .arg) (ourChip part (x .act) (x .arg) w .used) ++ ss)
     (steps-by part xs (ourChip part (x .act) (x .arg) w .after) more)
 
 told-by :

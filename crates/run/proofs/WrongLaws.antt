@@ -12,9 +12,13 @@ use Rattle.base.specs.Words.{every, storeUnder, members}
 use Rattle.record.specs.Fresh.{fresh}
 use Rattle.refusals.specs.Range.{outOfRange, clockOut, frameOut, cycleOut, powerOut, bitOutside}
 use Rattle.refusals.specs.Refusal.{refusalOf}
-use Rattle.ticks.specs.Lines.{irqLow, wdoLow, changed}
+use Rattle.events.specs.Control.{pullsIrq}
+use Rattle.events.specs.Tick.{eventsTick}
+use Rattle.events.specs.Range.{windowOut, debounceOut, eventsOut}
+use Rattle.ticks.specs.Lines.{irqLow, wdoLow, flagsChanged, changed}
 use Rattle.ticks.specs.Oscillator.{oscillatorTick}
 use Rattle.ticks.specs.Watchdog.{watchdogTick}
+use Rattle.ticks.specs.Event.{eventTick}
 use Rattle.ticks.specs.Clock.{calendarTick}
 use Rattle.ticks.specs.Tick.{cycleDevice, cycleTick, clockwork, tick}
 use Rattle.replies.specs.Reply.{nextReply}
@@ -33,7 +37,7 @@ use Rattle.run.specs.Wrong.{enablelessChip, deafChip, emptyChip, maskles
 
 -- both statements compute
 computed : Refutations × RunsShown
-unfolding Refutations RunsShown worldAfter stepsOf enablelessChip deafChip emptyChip masklessChip locklessChip lapsingChip ourChip performed refusalOf outOfRange clockOut frameOut cycleOut powerOut bitOutside every fresh sent afterSelect afterByte nextReply afterEnd carried cycleAfter welAfter waitedBy tick cycleTick cycleDevice clockwork changed irqLow wdoLow oscillatorTick watchdogTick calendarTick afterCut cutCount cutWorld storeUnder members start noByte noCycle frames.firstByte frames.laterByte frames.carried frames.cycleOf frames.welAfter frames.lockAfter bytes.isLoaded bytes.loadedByte bytes.entriesUnder bytes.entriesAfter bytes.bpAfter bytes.byteOf steps.refused steps.onSelect steps.onByte steps.onEnd steps.ticked steps.waited steps.finished steps.onWait steps.onCut steps.follow steps.ledgerRun
+unfolding Refutations RunsShown worldAfter stepsOf enablelessChip deafChip emptyChip masklessChip locklessChip lapsingChip ourChip performed refusalOf outOfRange clockOut frameOut cycleOut powerOut eventsOut windowOut debounceOut bitOutside every fresh sent afterSelect afterByte nextReply afterEnd carried cycleAfter welAfter waitedBy tick cycleTick cycleDevice clockwork changed flagsChanged irqLow pullsIrq wdoLow oscillatorTick watchdogTick eventTick eventsTick calendarTick afterCut cutCount cutWorld storeUnder members start noByte noCycle frames.firstByte frames.laterByte frames.carried frames.cycleOf frames.welAfter frames.lockAfter bytes.isLoaded bytes.loadedByte bytes.entriesUnder bytes.entriesAfter bytes.bpAfter bytes.byteOf steps.refused steps.onSelect steps.onByte steps.onEnd steps.ticked steps.waited steps.finished steps.onWait steps.onCut steps.follow steps.ledgerRun
 computed = (
   ((refl, refl), (refl, refl), (refl, refl), (refl, refl), (refl, refl), (refl, refl)),
   (

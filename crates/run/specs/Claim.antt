@@ -5,10 +5,10 @@
 use Prim.Native.Nat.{ℕ, _<_}
 use mathlib.Core.Path.{_≡_}
 use mathlib.Core.Bool.{true}
-use mathlib.Core.List.{List, [], _∷_}
+use mathlib.Core.List.{List, [], _∷_, _++_}
 use lib.ListN.{getD}
 use Rattle.record.specs.declared.Act.{Act}
-use Rattle.record.specs.declared.Act.the-variants.{Select, Byte, End, Wait, Cut, Up}
+use Rattle.record.specs.declared.Act.the-variants.{Select, Byte, End, Wait, Cut, Up, Set}
 use Rattle.record.specs.Part.{isPart, sizeOf, idSize}
 use Rattle.record.specs.World.{World, freshWorld}
 use Rattle.acts.specs.Act.{performed}
@@ -38,19 +38,24 @@ usedBy End count = 0
 usedBy Wait count = count
 usedBy Cut count = 0
 usedBy Up count = 0
+usedBy (Set p) count = 0
 
 -- our chip: the definition that `perform` is proved equal to
 unfoldable pub ourChip : Chip
 ourChip part act arg w = record { used = usedBy act (performed part act arg w .count); after = performed part act arg w .after }
 
--- a chip's act as the ledger names it
-abbrev pub named : Act → Rattle.ledger.specs.State.Act
-named Select = Rattle.ledger.specs.State.select
-named Byte = Rattle.ledger.specs.State.byte
-named End = Rattle.ledger.specs.State.end
-named Wait = Rattle.ledger.specs.State.wait
-named Cut = Rattle.ledger.specs.State.cut
-named Up = Rattle.ledger.specs.State.up
+-- L1. What the ledger is told of an act, its argument and the ticks that it used: one step, as the ledger names it. V19. Of a pin it is told nothing.
+abbrev one : Rattle.ledger.specs.State.Act → ℕ → ℕ → List Step
+one act arg used = record { act = act; arg = arg; used = used } ∷ []
+
+abbrev pub told : Act → ℕ → ℕ → List Step
+told Select = one Rattle.ledger.specs.State.select
+told Byte = one Rattle.ledger.specs.State.byte
+told End = one Rattle.ledger.specs.State.end
+told Wait = one Rattle.ledger.specs.State.wait
+told Cut = one Rattle.ledger.specs.State.cut
+told Up = one Rattle.ledger.specs.State.up
+told (Set p) = λ arg used. []
 
 -- the chip with its memories after a list of acts
 unfoldable pub worldAfter : Chip → ℕ → List Input → World → World
@@ -58,13 +63,10 @@ worldAfter chip part [] w = w
 worldAfter chip part (x ∷ xs) w = worldAfter chip part xs (chip part (x .act) (x .arg) w .after)
 
 -- L1. what the ledger is told of it
-abbrev pub stepOf : Input → ℕ → Step
-stepOf x used = record { act = named (x .act); arg = x .arg; used = used }
-
 unfoldable pub stepsOf : Chip → ℕ → List Input → World → List Step
 stepsOf chip part [] w = []
 stepsOf chip part (x ∷ xs) w =
-    stepOf x (chip part (x .act) (x .arg) w .used) ∷ stepsOf chip part xs (chip part (x .act) (x .arg) w .after)
+    told (x .act) (x .arg) (chip part (x .act) (x .arg) w .used) ++ stepsOf chip part xs (chip part (x .act) (x .arg) w .after)
 
 -- a memory and its size
 abbrev pub memoryOf : Memory → World → List ℕ

@@ -4,13 +4,13 @@
 use Prim.Native.Nat.{ℕ, zero, suc, min}
 use mathlib.Core.Path.{_≡_}
 use mathlib.Core.Bool.{false, not}
-use mathlib.Core.List.{List, [], _∷_}
+use mathlib.Core.List.{List, [], _∷_, _++_}
 use lib.Dec.{ltb}
 use lib.ListN.{length}
 use Rattle.base.specs.Words.{pick, over}
 use Rattle.record.specs.declared.Device.{Device}
 use Rattle.record.specs.Fresh.{fresh}
-use Rattle.record.specs.Numbers.{actOf}
+use Rattle.record.specs.Numbers.{actOf, actCount}
 use Rattle.record.specs.Part.{isPart}
 use Rattle.record.specs.World.{World, world, freshWorld}
 use Rattle.refusals.specs.Refusal.{wrongLength, firstRefusal, setupRefusal}
@@ -18,7 +18,7 @@ use Rattle.acts.specs.Act.{performed}
 use Rattle.ledger.specs.State.{Step, start}
 use Rattle.ledger.specs.Steps.{ledgerRun}
 use Rattle.run.specs.declared.Ran.{Ran}
-use Rattle.run.specs.Claim.{Input, Accounted, ourChip, worldAfter, stepOf}
+use Rattle.run.specs.Claim.{Input, Accounted, ourChip, worldAfter, told}
 use Rattle.run.specs.Begin.{ledgerOf, AccountedFrom}
 
 -- a run is refused by the first two rows of the table: 3 for a part that is none, 4 for a memory's length that is not the part's
@@ -30,7 +30,7 @@ unfoldable pub inputsOf : List ℕ → List ℕ → ℕ → List Input
 inputsOf [] args room = []
 inputsOf (c ∷ cs) [] room = []
 inputsOf (c ∷ cs) (n ∷ ns) zero = []
-inputsOf (c ∷ cs) (n ∷ ns) (suc room) = pick (ltb c 6) (record { act = actOf c; arg = n } ∷ inputsOf cs ns room) []
+inputsOf (c ∷ cs) (n ∷ ns) (suc room) = pick (ltb c actCount) (record { act = actOf c; arg = n } ∷ inputsOf cs ns room) []
 
 -- the same of the slices that are lent
 abbrev pub inputsIn : List ℕ → List ℕ → List ℕ → List ℕ → List Input
@@ -51,7 +51,7 @@ ticksOf part (x ∷ xs) w =
 unfoldable pub stepsBy : List Input → List ℕ → List Step
 stepsBy [] us = []
 stepsBy (x ∷ xs) [] = []
-stepsBy (x ∷ xs) (u ∷ us) = stepOf x u ∷ stepsBy xs us
+stepsBy (x ∷ xs) (u ∷ us) = told (x .act) (x .arg) u ++ stepsBy xs us
 
 -- what a list of acts on a chip leaves: record and memories, how many acts, the numbers answered and the ticks used are what the
 -- definitions give; past the acts that were performed nothing changes

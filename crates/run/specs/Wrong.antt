@@ -6,7 +6,7 @@ use mathlib.Core.List.{List, [], _∷_, _++_}
 use mathlib.Core.Path.{_≡_}
 use lib.ListN.{getD}
 use Rattle.base.specs.Words.{pick}
-use Rattle.record.specs.declared.Act.the-variants.{Select, Byte, End, Wait, Cut, Up}
+use Rattle.record.specs.declared.Act.the-variants.{Select, Byte, End, Wait, Cut, Up, Set}
 use Rattle.record.specs.declared.Lock.the-variants.{Open}
 use Rattle.record.specs.Setters.{withWel, withLock}
 use Rattle.record.specs.Stages.{selected}
@@ -34,6 +34,7 @@ changedAt before mask part End arg w = ourChip part End arg (before w)
 changedAt before mask part Wait arg w = ourChip part Wait arg w
 changedAt before mask part Cut arg w = ourChip part Cut (mask arg) w
 changedAt before mask part Up arg w = ourChip part Up arg w
+changedAt before mask part (Set p) arg w = ourChip part (Set p) arg w
 
 -- R3. A chip that needs no enable: at an end the latch counts as set, so that a write goes through without it.
 unfoldable pub enablelessChip : Chip

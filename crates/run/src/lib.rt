@@ -1,6 +1,7 @@
 // A list of acts on a fresh chip, or on one that is at work, performed one after the other.
 use record::Act;
 use record::Device;
+use record::number::ACTS;
 ghost use mathlib.Core.Path.{_≡_};
 ghost use Prim.Native.Nat.{min};
 ghost use lib.ListN.{length};
@@ -44,6 +45,7 @@ fn ticks_of(act: Act, count: u64) -> u64
         Act::Wait => count,
         Act::Cut => 0,
         Act::Up => 0,
+        Act::Set(_) => 0,
     }
 }
 
@@ -70,7 +72,7 @@ fn perform_all(
     let mut i: usize = 0;
     while i < most {
         let code = codes[i];
-        if 6 <= code {
+        if ACTS <= code {
             return Ran {
                 number: 0,
                 count: i,

@@ -24,9 +24,9 @@ use Rattle.refusals.proofs.TableLaws.{Suited, setup-passed}
 use Rattle.refusals.proofs.RangeLaws.{in-range}
 use Rattle.text.specs.Buffer.{Buffer, buffer, append}
 use Rattle.form.specs.Form.{Loaded, loaded, bad, load}
-use Rattle.form.specs.Table.{partIn, chipForm}
-use Rattle.form.specs.Chip.{headNumbers, tailNumbers, numbersOf, deviceOf, worldOf, IsChip, savedText, Sound}
-use Rattle.form.specs.Facts.{BytesFrom, RecordFacts}
+use Rattle.form.specs.Table.{partIn, chipEvents, chipForm}
+use Rattle.form.specs.Chip.{headNumbers, tailNumbers, eventNumbers, numbersOf, deviceFrom, worldOf, IsChip, savedText, Sound}
+use Rattle.form.specs.Facts.{BytesFrom, RecordFacts, EventFacts}
 use Rattle.form.specs.Save.{saveRefusal, notSaved, written, saves, loading, loadAnswer, loads}
 use Rattle.form.proofs.FactLaws.{good-facts}
 use Rattle.form.proofs.SavedLaws.{loads-text}
@@ -52,13 +52,13 @@ module _ (part : ℕ) (d : Device) (ee id : List ℕ) (k : setupRefusal part d (
   pub numbers-few : length (numbersOf part (world d ee id)) ≤ numberLimit
   unfolding numbersOf
   numbers-few =
-      few (d .regs) (d .sram) (headNumbers d) (d .load .bytes) (tailNumbers (d .load) (d .cycle)) ee id (s .regs) (s .sram) refl (s .bytes) refl
-      (suits .eeprom) (size-most part) (suits .ids)
+      few (d .regs) (d .sram) (headNumbers d) (d .load .bytes) (tailNumbers (d .load) (d .cycle)) ee id (eventNumbers (d .events)) (s .regs) (s .sram) refl (s .bytes) refl
+      (suits .eeprom) (size-most part) (suits .ids) refl
     where
       few :
-          (r q h b t e i : List ℕ) → length r ≡ 32 → length q ≡ 64 → length h ≡ 14 → length b ≡ 8 → length t ≡ 4 → length e ≡ sizeOf part → sizeOf part ≤ 256
-          → length i ≡ 16 → length (part ∷ (r ++ (q ++ (h ++ (b ++ (t ++ (e ++ i))))))) ≤ 395
-      few r q h b t e i lr lq lh lb lt le ls li =
+          (r q h b t e i v : List ℕ) → length r ≡ 32 → length q ≡ 64 → length h ≡ 14 → length b ≡ 8 → length t ≡ 4 → length e ≡ sizeOf part → sizeOf part ≤ 256
+          → length i ≡ 16 → length v ≡ 5 → length (part ∷ (r ++ (q ++ (h ++ (b ++ (t ++ (e ++ (i ++ v)))))))) ≤ 400
+      few r q h b t e i v lr lq lh lb lt le ls li lv =
           omega (
             arith,
             lr,
@@ -69,12 +69,14 @@ module _ (part : ℕ) (d : Device) (ee id : List ℕ) (k : setupRefusal part d (
             le,
             ls,
             li,
-            length-append r (q ++ (h ++ (b ++ (t ++ (e ++ i))))),
-            length-append q (h ++ (b ++ (t ++ (e ++ i)))),
-            length-append h (b ++ (t ++ (e ++ i))),
-            length-append b (t ++ (e ++ i)),
-            length-append t (e ++ i),
-            length-append e i,
+            lv,
+            length-append r (q ++ (h ++ (b ++ (t ++ (e ++ (i ++ v)))))),
+            length-append q (h ++ (b ++ (t ++ (e ++ (i ++ v))))),
+            length-append h (b ++ (t ++ (e ++ (i ++ v)))),
+            length-append b (t ++ (e ++ (i ++ v))),
+            length-append t (e ++ (i ++ v)),
+            length-append e (i ++ v),
+            length-append i v,
           )
 
 -- What saving answers.
@@ -154,7 +156,15 @@ module _ (text : List ℕ) (part : ℕ) (w : World) (m : List ℕ) (at lines cou
     chip-read = loads-text text ns whole .0
 
     pub record-read : RecordFacts ns
-    record-read = good-facts ns chip-read .first
+    record-read = good-facts ns chip-read .chip .first
+
+    pub events-read : (k : ℕ) → k ≡ chipEvents ns → EventFacts k ns × (k + 5 ≤ length ns)
+    events-read k e =
+        let f = good-facts ns chip-read in
+        (subst (λ (n : ℕ). EventFacts n ns) (sym e) (f .events), room e (f .long))
+      where
+        room : {a b n : ℕ} → a ≡ b → n ≡ b + 5 → a + 5 ≤ n
+        room p q = omega (arith, p, q)
 
     pub load-misfit : wrongLength (partIn ns) (length (w .eeprom)) (length (w .id)) ≡ true → loading 4 0 part w ≡ loads text part w
     unfolding loads
@@ -176,25 +186,25 @@ module _ (text : List ℕ) (part : ℕ) (w : World) (m : List ℕ) (at lines cou
       pub eeprom-there : (123 + length (w .eeprom) ≤ length ns) × BytesFrom ns 123 (length (w .eeprom))
       eeprom-there =
           let f = good-facts ns chip-read in
-          (within (f .long) eeprom-long, subst (BytesFrom ns 123) (sym eeprom-long) (f .eeprom))
+          (within (f .chip .reach) eeprom-long, subst (BytesFrom ns 123) (sym eeprom-long) (f .chip .eeprom))
         where
-          within : {n a s : ℕ} → n ≡ 123 + s + 16 → a ≡ s → 123 + a ≤ n
+          within : {n a s : ℕ} → 123 + s + 16 ≤ n → a ≡ s → 123 + a ≤ n
           within p q = omega (arith, p, q)
 
       pub id-there : (ee : ℕ) → ee ≡ length (w .eeprom) → (123 + ee + length (w .id) ≤ length ns) × BytesFrom ns (123 + ee) (length (w .id))
       id-there ee q =
           let f = good-facts ns chip-read in
           let p : ee ≡ sizeOf (partIn ns) = q ∙ eeprom-long in (
-            within (f .long) p id-long,
-            subst (BytesFrom ns (123 + ee)) (sym id-long) (subst (λ (k : ℕ). BytesFrom ns (123 + k) 16) (sym p) (f .id)),
+            within (f .chip .reach) p id-long,
+            subst (BytesFrom ns (123 + ee)) (sym id-long) (subst (λ (k : ℕ). BytesFrom ns (123 + k) 16) (sym p) (f .chip .id)),
           )
         where
-          within : {n a s i : ℕ} → n ≡ 123 + s + 16 → a ≡ s → i ≡ 16 → 123 + a + i ≤ n
+          within : {n a s i : ℕ} → 123 + s + 16 ≤ n → a ≡ s → i ≡ 16 → 123 + a + i ≤ n
           within p q u = omega (arith, p, q, u)
 
       pub load-done :
           (ee id : List ℕ) (d : Device) (k : ℕ) → k ≡ length (w .eeprom) → ee ≡ take (length (w .eeprom)) (drop 123 ns)
-          → id ≡ take (length (w .id)) (drop (123 + k) ns) → d ≡ deviceOf ns → loading 0 0 (partIn ns) (world d ee id) ≡ loads text part w
+          → id ≡ take (length (w .id)) (drop (123 + k) ns) → d ≡ deviceFrom (chipEvents ns) ns → loading 0 0 (partIn ns) (world d ee id) ≡ loads text part w
       unfolding loads worldOf
       load-done ee id d k q ex ix dx =
           (λ z.

@@ -18,25 +18,25 @@ use Rattle.text.specs.Decimal.{decimalText}
 use Rattle.text.proofs.BytesLaws.{is-word}
 use Rattle.text.proofs.DecimalLaws.{decimal-places}
 use Rattle.form.specs.Lines.{equals}
-use Rattle.form.specs.Table.{rows, partRow, registerRow, sramRow, dividerRow, startupRow, watchdogRow, delayRow, pulseRow, powerRow, markRow, welRow, protectionRow, lockRow, stageRow, offsetsRow, loadRow, nextRow, targetRow, leftRow, eepromRow, idRow}
+use Rattle.form.specs.Table.{rows, partRow, registerRow, sramRow, dividerRow, startupRow, watchdogRow, delayRow, pulseRow, powerRow, markRow, welRow, protectionRow, lockRow, stageRow, offsetsRow, loadRow, nextRow, targetRow, leftRow, eepromRow, idRow, evlsRow, evhsRow, edgesRow, sinceRow, debounceRow}
 use Rattle.numbers.specs.Tables.{rowAt, rowCount}
 use Rattle.saved.specs.Keys.{keyBytes, keyLengths}
 
 pub numbered-is : (i : ℕ) → i < rowCount → (eqb i 1 || eqb i 2 || eqb i 19 || eqb i 20) ≡ rowAt i .numbered
-unfolding every rowAt rows partRow registerRow sramRow dividerRow startupRow watchdogRow delayRow pulseRow powerRow markRow welRow protectionRow lockRow stageRow offsetsRow loadRow nextRow targetRow leftRow eepromRow idRow
-numbered-is i h = same-test-below (λ (k : ℕ). eqb k 1 || eqb k 2 || eqb k 19 || eqb k 20) (λ (k : ℕ). rowAt k .numbered) 21 refl i h
+unfolding every rowAt rows partRow registerRow sramRow dividerRow startupRow watchdogRow delayRow pulseRow powerRow markRow welRow protectionRow lockRow stageRow offsetsRow loadRow nextRow targetRow leftRow eepromRow idRow evlsRow evhsRow edgesRow sinceRow debounceRow
+numbered-is i h = same-test-below (λ (k : ℕ). eqb k 1 || eqb k 2 || eqb k 19 || eqb k 20) (λ (k : ℕ). rowAt k .numbered) 26 refl i h
 
 pub key-is : (i : ℕ) → i < rowCount → take (getD keyLengths i 0) (drop (i * 8) keyBytes) ≡ bytesOf (rowAt i .key)
-unfolding every agreed rowAt rows partRow registerRow sramRow dividerRow startupRow watchdogRow delayRow pulseRow powerRow markRow welRow protectionRow lockRow stageRow offsetsRow loadRow nextRow targetRow leftRow eepromRow idRow
+unfolding every agreed rowAt rows partRow registerRow sramRow dividerRow startupRow watchdogRow delayRow pulseRow powerRow markRow welRow protectionRow lockRow stageRow offsetsRow loadRow nextRow targetRow leftRow eepromRow idRow evlsRow evhsRow edgesRow sinceRow debounceRow
 key-is i h =
     is-word (bytesOf (rowAt i .key)) (take (getD keyLengths i 0) (drop (i * 8) keyBytes))
-    (every-at (λ (k : ℕ). isWord (bytesOf (rowAt k .key)) (take (getD keyLengths k 0) (drop (k * 8) keyBytes))) 21 refl i h)
+    (every-at (λ (k : ℕ). isWord (bytesOf (rowAt k .key)) (take (getD keyLengths k 0) (drop (k * 8) keyBytes))) 26 refl i h)
 
 -- a key has at most eight letters, a line's number at most two digits
 pub key-short : (i : ℕ) → i < rowCount → length (bytesOf (rowAt i .key)) ≤ 8
 unfolding every
 key-short i h =
-    let l : getD keyLengths i 0 < 9 = bound-below (λ (k : ℕ). getD keyLengths k 0) 9 21 refl i h in
+    let l : getD keyLengths i 0 < 9 = bound-below (λ (k : ℕ). getD keyLengths k 0) 9 26 refl i h in
     subst (λ (x : List ℕ). length x ≤ 8) (key-is i h) (short (getD keyLengths i 0) (drop (i * 8) keyBytes) l)
   where
     short : (n : ℕ) (x : List ℕ) → n < 9 → length (take n x) ≤ 8

@@ -4,7 +4,7 @@ use mathlib.Core.Path.{_≡_, refl, sym, ap, subst, _∙_}
 use mathlib.Core.Bool.{Bool, true, false, not, _&&_, _||_}
 use mathlib.Core.List.{List, [], _∷_, _++_, append-nil, append-assoc}
 use Prim.Native.Nat.{ℕ, zero, suc, _+_, _-_, _*_, _/_, _<_, _≤_}
-use native.Mathlib.Nat.{add-zero, zero-mul, suc-mul}
+use native.Mathlib.Nat.{add-zero, zero-add, zero-mul, suc-mul}
 use native.Mathlib.Numerals.{add-one}
 use native.Mathlib.Omega.{arith}
 use borrow.Author.Tests.{eqb-true, ltb-true, ltb-false, leb-true}
@@ -12,7 +12,7 @@ use lib.Dec.{eqb, ltb, leb}
 use lib.ListN.{length, take, drop, getD, set, replicate, length-append, length-replicate, List·getD-append, List·getD-eq-default}
 use lib.Seq.{take-at, take-all, take-suc, drop-cons, set-at, append-snoc, getD-append-add, length-take-le}
 use Rattle.base.specs.Words.{pick, bit, every}
-use Rattle.base.proofs.Tests.{by-cases, pick-case}
+use Rattle.base.proofs.Tests.{by-cases, yes, no, pick-case}
 use Rattle.base.proofs.Every.{every-at}
 use Rattle.base.proofs.StoreLaws.{replicate-each}
 use Rattle.record.specs.Numbers.{stageOf}
@@ -21,33 +21,33 @@ use Rattle.record.specs.Registers.{periodOf, startupTicks, cycleTicks}
 use Rattle.record.specs.Stages.{foreignToWip}
 use Rattle.record.proofs.PartLaws.{size-most}
 use Rattle.form.specs.Lines.{headOf}
-use Rattle.form.specs.Table.{Row, span, partIn, caseGood, valueLimit, targetLimit, stageGood, targetGood, keyOf, goodAfter, rows, partRow, registerRow, sramRow, dividerRow, startupRow, watchdogRow, delayRow, pulseRow, powerRow, markRow, welRow, protectionRow, lockRow, stageRow, offsetsRow, loadRow, nextRow, targetRow, leftRow, eepromRow, idRow}
+use Rattle.form.specs.Table.{Row, span, partIn, caseGood, valueLimit, targetLimit, edgesBy, sinceBy, debounceBy, chipEvents, stageGood, targetGood, keyOf, goodAfter, zerosAfter, olderRows, eventRows, laterGroups, inGroups, rows, partRow, registerRow, sramRow, dividerRow, startupRow, watchdogRow, delayRow, pulseRow, powerRow, markRow, welRow, protectionRow, lockRow, stageRow, offsetsRow, loadRow, nextRow, targetRow, leftRow, eepromRow, idRow, evlsRow, evhsRow, edgesRow, sinceRow, debounceRow}
 use Rattle.numbers.specs.Tables.{rowAt, rowCount, numberLimit}
 use Rattle.numbers.proofs.TableLaws.{widths, lineCounts, linesBy, row-width, row-lines}
-use Rattle.saved.specs.Reading.{Reading, reading, pastWord, numberAt, pastNumber, Got, got, settled, markAfter, runOf, lineRead, rowRead, rowsRead, textRead}
-use Rattle.saved.specs.Place.{filled, Holds, RowRead, TextRead}
-use Rattle.saved.proofs.ReadingLaws.{word-lines, number-lines}
+use Rattle.saved.specs.Reading.{Reading, reading, pastWord, numberAt, pastNumber, Got, got, settled, markAfter, runOf, lineRead, rowRead, rowsRead, groupsRead, textRead}
+use Rattle.saved.specs.Place.{filled, Holds, RowRead, rowsIn, most, RowsRead, TextRead}
+use Rattle.saved.proofs.ReadingLaws.{word-lines, number-lines, complete-at}
 use Rattle.saved.proofs.RowLaws.{run-length}
 
 -- The list in its array: one number more, and what is read at a place.
 pub filled-long : (b : List ℕ) → length b ≤ numberLimit → length (filled b) ≡ numberLimit
 unfolding filled
-filled-long b h = length-append b (replicate (395 - length b) 0) ∙ ap (λ (n : ℕ). length b + n) (length-replicate (395 - length b) 0) ∙ whole (length b) h
+filled-long b h = length-append b (replicate (400 - length b) 0) ∙ ap (λ (n : ℕ). length b + n) (length-replicate (400 - length b) 0) ∙ whole (length b) h
   where
-    whole : (n : ℕ) → n ≤ 395 → n + (395 - n) ≡ 395
+    whole : (n : ℕ) → n ≤ 400 → n + (400 - n) ≡ 400
     whole n h = omega arith
 
 pub filled-more : (b : List ℕ) (n : ℕ) → length b < numberLimit → set (filled b) (length b) n ≡ filled (b ++ (n ∷ []))
 unfolding filled
 filled-more b n h =
-    let one : 395 - length b ≡ suc (395 - (length b + 1)) = less (length b) h in
+    let one : 400 - length b ≡ suc (400 - (length b + 1)) = less (length b) h in
     let long : length (b ++ (n ∷ [])) ≡ length b + 1 = length-append b (n ∷ []) in
     ap (λ (k : ℕ). set (b ++ replicate k 0) (length b) n) one
-    ∙ set-at b 0 (replicate (395 - (length b + 1)) 0) n (length b) refl
-    ∙ sym (append-snoc b n (replicate (395 - (length b + 1)) 0))
-    ∙ ap (λ (k : ℕ). (b ++ (n ∷ [])) ++ replicate (395 - k) 0) (sym long)
+    ∙ set-at b 0 (replicate (400 - (length b + 1)) 0) n (length b) refl
+    ∙ sym (append-snoc b n (replicate (400 - (length b + 1)) 0))
+    ∙ ap (λ (k : ℕ). (b ++ (n ∷ [])) ++ replicate (400 - k) 0) (sym long)
   where
-    less : (m : ℕ) → m < 395 → 395 - m ≡ suc (395 - (m + 1))
+    less : (m : ℕ) → m < 400 → 400 - m ≡ suc (400 - (m + 1))
     less m h = omega arith
 
 zeros : (n k : ℕ) → _≡_ {A = ℕ} (getD (replicate n 0) k 0) 0
@@ -56,13 +56,13 @@ zeros n k = replicate-each (λ (v : ℕ). _≡_ {A = ℕ} v 0) n 0 refl refl k
 pub filled-at : (b : List ℕ) (k : ℕ) → getD (filled b) k 0 ≡ getD b k 0
 unfolding filled
 filled-at b k =
-    by-cases (ltb k (length b)) (λ t. List·getD-append b (replicate (395 - length b) 0) 0 k (ltb-true k (length b) t))
+    by-cases (ltb k (length b)) (λ t. List·getD-append b (replicate (400 - length b) 0) 0 k (ltb-true k (length b) t))
     (λ f.
     let l = ltb-false k (length b) f in
     let e : k ≡ length b + (k - length b) = past (length b) l in
-    ap (λ (n : ℕ). getD (b ++ replicate (395 - length b) 0) n 0) e
-    ∙ getD-append-add b (replicate (395 - length b) 0) (k - length b) 0
-    ∙ zeros (395 - length b) (k - length b)
+    ap (λ (n : ℕ). getD (b ++ replicate (400 - length b) 0) n 0) e
+    ∙ getD-append-add b (replicate (400 - length b) 0) (k - length b) 0
+    ∙ zeros (400 - length b) (k - length b)
     ∙ sym (List·getD-eq-default b 0 {n = k} l))
   where
     past : (m : ℕ) → m ≤ k → k ≡ m + (k - m)
@@ -70,7 +70,7 @@ filled-at b k =
 
 pub filled-start : (b : List ℕ) → take (length b) (filled b) ≡ b
 unfolding filled
-filled-start b = take-at b (replicate (395 - length b) 0) (length b) refl
+filled-start b = take-at b (replicate (400 - length b) 0) (length b) refl
 
 -- What a row says of a number goes by what is read at places.
 abbrev pub Alike : List ℕ → List ℕ → Type 0
@@ -86,7 +86,7 @@ target-alike m b e zero n = refl
 target-alike m b e (suc j) n = λ i. ltb n (targetLimit (sizeOf (e 0 i)) (e 120 i))
 
 pub good-alike : (i : ℕ) (m b : List ℕ) → Alike m b → (j n : ℕ) → rowAt i .good m j n ≡ rowAt i .good b j n
-unfolding rowAt rows partRow registerRow sramRow dividerRow startupRow watchdogRow delayRow pulseRow powerRow markRow welRow protectionRow lockRow stageRow offsetsRow loadRow nextRow targetRow leftRow eepromRow idRow
+unfolding rowAt rows partRow registerRow sramRow dividerRow startupRow watchdogRow delayRow pulseRow powerRow markRow welRow protectionRow lockRow stageRow offsetsRow loadRow nextRow targetRow leftRow eepromRow idRow evlsRow evhsRow edgesRow sinceRow debounceRow
 good-alike zero m b e j n = refl
 good-alike (suc zero) m b e j n = refl
 good-alike (suc (suc zero)) m b e j n = refl
@@ -108,7 +108,12 @@ good-alike (suc (suc (suc (suc (suc (suc (suc (suc (suc (suc (suc (suc (suc (suc
 good-alike (suc (suc (suc (suc (suc (suc (suc (suc (suc (suc (suc (suc (suc (suc (suc (suc (suc (suc zero)))))))))))))))))) m b e j n = λ q. ltb n (pick (eqb (e 102 q) 1 && not (foreignToWip (stageOf (e 107 q) (e 108 q) (e 109 q)))) (suc cycleTicks) 1)
 good-alike (suc (suc (suc (suc (suc (suc (suc (suc (suc (suc (suc (suc (suc (suc (suc (suc (suc (suc (suc zero))))))))))))))))))) m b e j n = refl
 good-alike (suc (suc (suc (suc (suc (suc (suc (suc (suc (suc (suc (suc (suc (suc (suc (suc (suc (suc (suc (suc zero)))))))))))))))))))) m b e j n = refl
-good-alike (suc (suc (suc (suc (suc (suc (suc (suc (suc (suc (suc (suc (suc (suc (suc (suc (suc (suc (suc (suc (suc i))))))))))))))))))))) m b e j n = refl
+good-alike (suc (suc (suc (suc (suc (suc (suc (suc (suc (suc (suc (suc (suc (suc (suc (suc (suc (suc (suc (suc (suc zero))))))))))))))))))))) m b e j n = refl
+good-alike (suc (suc (suc (suc (suc (suc (suc (suc (suc (suc (suc (suc (suc (suc (suc (suc (suc (suc (suc (suc (suc (suc zero)))))))))))))))))))))) m b e j n = refl
+good-alike (suc (suc (suc (suc (suc (suc (suc (suc (suc (suc (suc (suc (suc (suc (suc (suc (suc (suc (suc (suc (suc (suc (suc zero))))))))))))))))))))))) m b e j n = λ q. ltb n (edgesBy (e 12 q))
+good-alike (suc (suc (suc (suc (suc (suc (suc (suc (suc (suc (suc (suc (suc (suc (suc (suc (suc (suc (suc (suc (suc (suc (suc (suc zero)))))))))))))))))))))))) m b e j n = (λ q. ltb n (sinceBy (getD m (123 + sizeOf (e 0 q) + 16 + 2) 0))) ∙ ap (λ (v : ℕ). ltb n (sinceBy v)) (e (chipEvents b + 2))
+good-alike (suc (suc (suc (suc (suc (suc (suc (suc (suc (suc (suc (suc (suc (suc (suc (suc (suc (suc (suc (suc (suc (suc (suc (suc (suc zero))))))))))))))))))))))))) m b e j n = (λ q. ltb n (debounceBy (e 12 q) (getD m (123 + sizeOf (e 0 q) + 16) 0))) ∙ ap (λ (v : ℕ). ltb n (debounceBy (getD b 12 0) v)) (e (chipEvents b))
+good-alike (suc (suc (suc (suc (suc (suc (suc (suc (suc (suc (suc (suc (suc (suc (suc (suc (suc (suc (suc (suc (suc (suc (suc (suc (suc (suc i)))))))))))))))))))))))))) m b e j n = refl
 
 -- The numbers of a line, one after the other.
 after-snoc : (r : Row) (b : List ℕ) (j : ℕ) (x : List ℕ) (n : ℕ) → goodAfter r b j (x ++ (n ∷ [])) ≡ goodAfter r b j x && r .good (b ++ x) (j + length x) n
@@ -197,7 +202,7 @@ module _ (r : Row) (b : List ℕ) (first w : ℕ) (s₀ : Reading) where
       below : {a : ℕ} → j < a → j ≤ a
       below p = omega (arith, p)
 
-      inside : {a : ℕ} → a ≡ count + j → j < w → count + w ≤ 395 → a < 395
+      inside : {a : ℕ} → a ≡ count + j → j < w → count + w ≤ 400 → a < 400
       inside p q k = omega (arith, p, q, k)
 
   pub went-all : (s : Reading) (good : Bool) (m : List ℕ) (j : ℕ) → j ≡ w → Went j s good m
@@ -221,7 +226,7 @@ held-long m count h l = length-take-le count m (subst (λ (n : ℕ). count ≤ n
 pub holds : (b : List ℕ) (n : ℕ) → length b ≡ n → n ≤ numberLimit → Holds (filled b) n
 holds b n e l =
     let t : take n (filled b) ≡ b = ap (λ (k : ℕ). take k (filled b)) (sym e) ∙ filled-start b in
-    record { long = filled-long b (subst (λ (k : ℕ). k ≤ 395) (sym e) l); list = ap filled (sym t) }
+    record { long = filled-long b (subst (λ (k : ℕ). k ≤ 400) (sym e) l); list = ap filled (sym t) }
 
 -- the test that ends a line and the list after it, from the array
 pub line-went :
@@ -235,8 +240,8 @@ unfolding every
 width-most i h =
     let e = row-width i h in
     let w = getD widths i 0 in (
-      subst (λ (n : ℕ). 0 < n) e (ltb-true 0 w (every-at (λ (k : ℕ). ltb 0 (getD widths k 0)) 21 refl i h)),
-      subst (λ (n : ℕ). n ≤ 8) e (leb-true w 8 (every-at (λ (k : ℕ). leb (getD widths k 0) 8) 21 refl i h)),
+      subst (λ (n : ℕ). 0 < n) e (ltb-true 0 w (every-at (λ (k : ℕ). ltb 0 (getD widths k 0)) 26 refl i h)),
+      subst (λ (n : ℕ). n ≤ 8) e (leb-true w 8 (every-at (λ (k : ℕ). leb (getD widths k 0) 8) 26 refl i h)),
     )
 
 pub lines-most : (b : List ℕ) (i : ℕ) → i < rowCount → rowAt i .lines b ≤ 32
@@ -244,7 +249,7 @@ unfolding every
 lines-most b i h =
     subst (λ (n : ℕ). n ≤ 32) (sym (row-lines b i h))
     (pick-case (λ (n : ℕ). n ≤ 32) (eqb i 19) (pages (sizeOf (partIn b)) (size-most (partIn b)))
-    (leb-true (getD lineCounts i 0) 32 (every-at (λ (k : ℕ). leb (getD lineCounts k 0) 32) 21 refl i h)))
+    (leb-true (getD lineCounts i 0) 32 (every-at (λ (k : ℕ). leb (getD lineCounts k 0) 32) 26 refl i h)))
   where
     pages : (n : ℕ) → n ≤ 256 → n / 8 ≤ 32
     pages n l = omega arith
@@ -347,7 +352,7 @@ module _ (r : Row) (n : ℕ) (g : Got) where
         fewer = more at (s .lines) (s′ .lines) (r .width) (o .fewer) k wide;
       }
     where
-      less : {a : ℕ} (c : ℕ) → a + c ≤ 395 → a ≤ 395
+      less : {a : ℕ} (c : ℕ) → a + c ≤ 400 → a ≤ 400
       less c p = omega (arith, p)
 
       step : (c p v : ℕ) {a q t : ℕ} → a ≡ c + p → q ≡ p + v → t ≡ q → a + v ≡ c + t
@@ -387,7 +392,7 @@ room-line :
     (n i w at : ℕ) (b : List ℕ) → i < n → at ≡ length b + i * w → length b + n * w ≤ numberLimit → at + w ≤ numberLimit
 room-line n i w at b h e l = fits (i * w) (n * w) (times-more i n w h) e l
   where
-    fits : (p q : ℕ) → p + w ≤ q → at ≡ length b + p → length b + q ≤ 395 → at + w ≤ 395
+    fits : (p q : ℕ) → p + w ≤ q → at ≡ length b + p → length b + q ≤ 400 → at + w ≤ 400
     fits p q t u v = omega (arith, t, u, v)
 
 -- where a row has room, line i of it has
@@ -400,43 +405,36 @@ line-fits row l m count i at o n room h e =
     let r = rowAt row in
     let k = held-long m count o (less (span r b) room) in
     room-line l i (r .width) at b h e
-    (subst (λ (z : ℕ). length b + z * r .width ≤ 395) (sym n) (subst (λ (z : ℕ). z + span r b ≤ 395) (sym k) room))
+    (subst (λ (z : ℕ). length b + z * r .width ≤ 400) (sym n) (subst (λ (z : ℕ). z + span r b ≤ 400) (sym k) room))
   where
-    less : {x : ℕ} (s : ℕ) → x + s ≤ 395 → x ≤ 395
+    less : {x : ℕ} (s : ℕ) → x + s ≤ 400 → x ≤ 400
     less s p = omega (arith, p)
 
 -- The rows: after i of them at most so many numbers are there.
-mosts : List ℕ
-mosts =
-    0 ∷ 1 ∷ 33 ∷ 97 ∷ 98 ∷ 99 ∷ 100 ∷ 101 ∷ 102 ∷ 103 ∷ 104 ∷ 105 ∷ 106 ∷ 107 ∷ 110 ∷ 111 ∷ 119 ∷ 120 ∷ 122 ∷ 123 ∷ 379 ∷ 395 ∷ []
-
-pub most : ℕ → ℕ
-most i = getD mosts i 0
-
 span-is : (b : List ℕ) (i : ℕ) → i < rowCount → span (rowAt i) b ≡ linesBy i (partIn b) * getD widths i 0
 span-is b i h = λ q. row-lines b i h q * sym (row-width i h) q
 
 pub most-more : (b : List ℕ) (i : ℕ) → i < rowCount → most i + span (rowAt i) b ≤ most (i + 1)
-unfolding every most mosts
+unfolding every most
 most-more b i h =
     subst (λ (n : ℕ). most i + n ≤ most (i + 1)) (sym (span-is b i h))
     (by-cases (eqb i 19) (λ t. rw (eqb-true i 19 t) (pages (sizeOf (partIn b)) (size-most (partIn b))))
     (λ f.
     rw f
     (leb-true (most i + getD lineCounts i 0 * getD widths i 0) (most (i + 1))
-    (every-at (λ (k : ℕ). leb (most k + getD lineCounts k 0 * getD widths k 0) (most (k + 1))) 21 refl i h))))
+    (every-at (λ (k : ℕ). leb (most k + getD lineCounts k 0 * getD widths k 0) (most (k + 1))) 26 refl i h))))
   where
     pages : (n : ℕ) → n ≤ 256 → 123 + n / 8 * 8 ≤ 379
     pages n l = omega arith
 
 pub most-few : (i : ℕ) → i ≤ rowCount → most i ≤ numberLimit
-unfolding every most mosts
-most-few i h = leb-true (most i) 395 (every-at (λ (k : ℕ). leb (most k) 395) 22 refl i (within h))
+unfolding every most
+most-few i h = leb-true (most i) 400 (every-at (λ (k : ℕ). leb (most k) 400) 27 refl i (within h))
   where
-    within : {n : ℕ} → n ≤ 21 → n < 22
+    within : {n : ℕ} → n ≤ 26 → n < 27
     within p = omega (arith, p)
 
-rows-count : length rows ≡ 21
+rows-count : length rows ≡ 26
 unfolding rows
 rows-count = refl
 
@@ -444,65 +442,177 @@ pub row-first : (i : ℕ) → i < rowCount → drop i rows ≡ rowAt i ∷ drop 
 unfolding rowAt
 row-first i h = drop-cons rows i idRow (subst (λ (n : ℕ). i < n) (sym rows-count) h)
 
-module _ (text : List ℕ) where
-  pub record Texts (i count : ℕ) (m : List ℕ) (s : Reading) : Type 0 where
+-- Rows from `first` on, before `end`: after some of them what is left gives what all of them give.
+pub rows-first : (i end : ℕ) → i < end → end ≤ rowCount → rowsIn i end ≡ rowAt i ∷ rowsIn (i + 1) end
+unfolding rowsIn
+rows-first i end h l =
+    let one : end - i ≡ suc (end - (i + 1)) = omega (arith, h) in
+    (λ q. take (one q) (row-first i (within h l) q)) ∙ ap (λ (k : ℕ). rowAt i ∷ take (end - (i + 1)) (drop k rows)) (sym (add-one i))
+  where
+    within : {a b : ℕ} → a < b → b ≤ 26 → a < 26
+    within p q = omega (arith, p, q)
+
+module _ (first end : ℕ) (g : Got) where
+  pub record Reads (i count : ℕ) (m : List ℕ) (s : Reading) : Type 0 where
     pub list : Holds m count
-    pub left : rowsRead (drop i rows) (got (take count m) s) ≡ textRead text
+    pub left : rowsRead (rowsIn i end) (got (take count m) s) ≡ rowsRead (rowsIn first end) g
     pub few : count ≤ most i
     pub fewer : s .lines ≤ count
 
-  pub texts-none : (m : List ℕ) → m ≡ filled [] → Texts 0 0 m (reading text 0 false)
-  unfolding most mosts
-  texts-none m e =
-      record { list = subst (λ (l : List ℕ). Holds l 0) (sym e) (holds [] 0 refl (omega arith)); left = refl; few = omega arith; fewer = omega arith }
+  pub reads-none : (m : List ℕ) (count : ℕ) (s : Reading) → Holds m count → g ≡ got (take count m) s → count ≤ most first → s .lines ≤ count → Reads first count m s
+  reads-none m count s h e l f = record { list = h; left = ap (rowsRead (rowsIn first end)) (sym e); few = l; fewer = f }
 
-  pub texts-more :
-      (i count : ℕ) (m : List ℕ) (s : Reading) (m′ : List ℕ) (s′ : Reading) (count′ : ℕ) → i < rowCount → Texts i count m s
-      → RowRead (rowAt i) (got (take count m) s) m′ s′ count′ → Texts (i + 1) count′ m′ s′
+  pub reads-more :
+      (i count : ℕ) (m : List ℕ) (s : Reading) (m′ : List ℕ) (s′ : Reading) (count′ : ℕ) → i < end → end ≤ rowCount → Reads i count m s
+      → RowRead (rowAt i) (got (take count m) s) m′ s′ count′ → Reads (i + 1) count′ m′ s′
   unfolding rowsRead
-  texts-more i count m s m′ s′ count′ h t r =
+  reads-more i count m s m′ s′ count′ h k t r =
       let b = take count m in
-      let l : length b ≡ count = held-long m count (t .list) (under (t .few) (most-few i (le h))) in
+      let here = within h k in
+      let l : length b ≡ count = held-long m count (t .list) (under (t .few) (most-few i (le here))) in
       record {
         list = r .list;
         left =
-            (λ q. rowsRead (drop (add-one i q) rows) (r .whole q))
-            ∙ sym (ap (λ (rs : List Row). rowsRead rs (got b s)) (row-first i h))
+            ap (rowsRead (rowsIn (i + 1) end)) (r .whole)
+            ∙ sym (ap (λ (rs : List Row). rowsRead rs (got b s)) (rows-first i end h k))
             ∙ t .left;
-        few = grown (span (rowAt i) b) (r .counted) l (t .few) (most-more b i h);
+        few = grown (span (rowAt i) b) (r .counted) l (t .few) (most-more b i here);
         fewer = r .fewer;
       }
     where
-      le : {n : ℕ} → n < 21 → n ≤ 21
+      within : {a b : ℕ} → a < b → b ≤ 26 → a < 26
+      within p q = omega (arith, p, q)
+
+      le : {n : ℕ} → n < 26 → n ≤ 26
       le p = omega (arith, p)
 
-      under : {a c : ℕ} → a ≤ c → c ≤ 395 → a ≤ 395
+      under : {a c : ℕ} → a ≤ c → c ≤ 400 → a ≤ 400
       under p q = omega (arith, p, q)
 
       grown : {a c d e g : ℕ} (f : ℕ) → a ≡ c + f → c ≡ d → d ≤ e → e + f ≤ g → a ≤ g
       grown f p q u v = omega (arith, p, q, u, v)
 
-  pub texts-room : (i count : ℕ) (m : List ℕ) (s : Reading) → i < rowCount → Texts i count m s → count + span (rowAt i) (take count m) ≤ numberLimit
-  texts-room i count m s h t = room (span (rowAt i) (take count m)) (t .few) (most-more (take count m) i h) (most-few (i + 1) (le h))
+  pub reads-room :
+      (i count : ℕ) (m : List ℕ) (s : Reading) → i < end → end ≤ rowCount → Reads i count m s → count + span (rowAt i) (take count m) ≤ numberLimit
+  reads-room i count m s h k t =
+      room (span (rowAt i) (take count m)) (t .few) (most-more (take count m) i (within h k)) (most-few (i + 1) (le h k))
     where
-      le : {n : ℕ} → n < 21 → n + 1 ≤ 21
-      le p = omega (arith, p)
+      within : {a b : ℕ} → a < b → b ≤ 26 → a < 26
+      within p q = omega (arith, p, q)
 
-      room : {a c g : ℕ} (f : ℕ) → a ≤ c → c + f ≤ g → g ≤ 395 → a + f ≤ 395
+      le : {n b : ℕ} → n < b → b ≤ 26 → n + 1 ≤ 26
+      le p q = omega (arith, p, q)
+
+      room : {a c g : ℕ} (f : ℕ) → a ≤ c → c + f ≤ g → g ≤ 400 → a + f ≤ 400
       room f p q u = omega (arith, p, q, u)
 
-  pub texts-all : (i count : ℕ) (m : List ℕ) (s : Reading) → i ≡ rowCount → Texts i count m s → TextRead text m s count
-  unfolding rowsRead rows
-  texts-all i count m s e t =
+  pub reads-all : (i count : ℕ) (m : List ℕ) (s : Reading) → i ≡ end → Reads i count m s → RowsRead (rowsIn first end) end g m s count
+  unfolding rowsRead rowsIn
+  reads-all i count m s e t =
+      let z : end - i ≡ 0 = omega (arith, e) in
       record {
         list = t .list;
-        whole = sym (ap (λ (k : ℕ). rowsRead (drop k rows) (got (take count m) s)) e) ∙ t .left;
-        few = under (t .few) (most-few i (le e));
+        whole = sym (ap (λ (k : ℕ). rowsRead (take k (drop i rows)) (got (take count m) s)) z) ∙ t .left;
+        few = subst (λ (k : ℕ). count ≤ most k) e (t .few);
         fewer = t .fewer;
       }
-    where
-      le : {n : ℕ} → n ≡ 21 → n ≤ 21
-      le p = omega (arith, p)
 
-      under : {a c : ℕ} → a ≤ c → c ≤ 395 → a ≤ 395
-      under p q = omega (arith, p, q)
+-- an empty array
+pub none-held : (m : List ℕ) → m ≡ filled [] → Holds m 0
+none-held m e = subst (λ (l : List ℕ). Holds l 0) (sym e) (holds [] 0 refl (omega arith))
+
+-- numbers 0 behind a list are there already
+filled-zeros : (b : List ℕ) (k : ℕ) → length b + k ≤ numberLimit → filled b ≡ filled (b ++ replicate k 0)
+unfolding filled
+filled-zeros b k h =
+    let long : length (b ++ replicate k 0) ≡ length b + k = length-append b (replicate k 0) ∙ ap (λ (n : ℕ). length b + n) (length-replicate k 0) in
+    let split : 400 - length b ≡ k + (400 - (length b + k)) = parts (length b) h in
+    ap (λ (n : ℕ). b ++ replicate n 0) split
+    ∙ ap (λ (x : List ℕ). b ++ x) (more k (400 - (length b + k)))
+    ∙ sym (append-assoc b (replicate k 0) (replicate (400 - (length b + k)) 0))
+    ∙ ap (λ (n : ℕ). (b ++ replicate k 0) ++ replicate (400 - n) 0) (sym long)
+  where
+    parts : (n : ℕ) → n + k ≤ 400 → 400 - n ≡ k + (400 - (n + k))
+    parts n p = omega (arith, p)
+
+    more : (i j : ℕ) → _≡_ {A = List ℕ} (replicate (i + j) 0) (replicate i 0 ++ replicate j 0)
+    more zero j = ap (λ (n : ℕ). replicate n 0) (zero-add j)
+    more (suc i) j =
+        let e : suc i + j ≡ suc (i + j) = omega arith in
+        ap (λ (n : ℕ). replicate n 0) e ∙ ap (λ (x : List ℕ). 0 ∷ x) (more i j)
+
+-- A whole text: it ends before the event inputs, or they are read.
+module _ (text : List ℕ) (m : List ℕ) (at lines count : ℕ) (stopped : Bool) where
+  abbrev s : Reading
+  s = reading (drop at text) lines stopped
+
+  abbrev begun : Got
+  begun = got [] (reading text 0 false)
+
+  older-is : rowsIn 0 21 ≡ olderRows
+  unfolding rowsIn rows
+  older-is = refl
+
+  events-are : rowsIn 21 26 ≡ eventRows chipEvents
+  unfolding rowsIn rows
+  events-are = refl
+
+  -- what is read of the rows before them
+  first-read : RowsRead (rowsIn 0 21) 21 begun m s count → rowsRead olderRows begun ≡ got (take count m) s
+  first-read r = ap (λ (rs : List Row). rowsRead rs begun) (sym older-is) ∙ sym (r .whole)
+
+  module _ (r : RowsRead (rowsIn 0 21) 21 begun m s count) where
+    text-is : textRead text ≡ groupsRead laterGroups (got (take count m) s)
+    text-is = ap (groupsRead laterGroups) (first-read r)
+
+    pub few-read : count ≤ 395
+    unfolding most
+    few-read = r .few
+
+    pub text-ended : (stopped || ltb at (length text)) ≡ false → TextRead text m s (count + 5)
+    unfolding groupsRead zerosAfter evlsRow evhsRow edgesRow sinceRow debounceRow
+    text-ended t =
+        let b = take count m in
+        let c = complete-at text at lines stopped false t in
+        let here : length b ≡ count = held-long m count (r .list) (under few-read) in
+        let full : m ≡ filled (b ++ replicate 5 0) = r .list .list ∙ filled-zeros b 5 (room here few-read) in
+        let long : length (b ++ replicate 5 0) ≡ count + 5 = length-append b (replicate 5 0) ∙ ap (λ (n : ℕ). n + 5) here in
+        let h : Holds m (count + 5) = subst (λ (l : List ℕ). Holds l (count + 5)) (sym full) (holds (b ++ replicate 5 0) (count + 5) long (more few-read)) in
+        let e : take (count + 5) m ≡ b ++ replicate 5 0 =
+        ap (take (count + 5)) full ∙ ap (λ (n : ℕ). take n (filled (b ++ replicate 5 0))) (sym long) ∙ filled-start (b ++ replicate 5 0) in
+        record {
+          list = h;
+          whole = ap (λ (x : List ℕ). got x s) e ∙ yes (got (b ++ replicate 5 0) s) (rowsRead (eventRows chipEvents) (got b s)) c ∙ sym text-is;
+          few = more few-read;
+          fewer = up (r .fewer);
+        }
+      where
+        under : {n : ℕ} → n ≤ 395 → n ≤ 400
+        under p = omega (arith, p)
+
+        room : {n k : ℕ} → n ≡ k → k ≤ 395 → n + 5 ≤ 400
+        room p q = omega (arith, p, q)
+
+        more : {n : ℕ} → n ≤ 395 → n + 5 ≤ 400
+        more p = omega (arith, p)
+
+        up : {n k : ℕ} → n ≤ k → n ≤ k + 5
+        up p = omega (arith, p)
+
+    pub text-on :
+        (m′ : List ℕ) (s′ : Reading) (count′ : ℕ) → (stopped || ltb at (length text)) ≡ true → RowsRead (rowsIn 21 26) 26 (got (take count m) s) m′ s′ count′
+        → TextRead text m′ s′ count′
+    unfolding groupsRead most
+    text-on m′ s′ count′ t q =
+        let b = take count m in
+        let c = complete-at text at lines stopped true t in
+        record {
+          list = q .list;
+          whole =
+              q .whole
+              ∙ ap (λ (rs : List Row). rowsRead rs (got b s)) events-are
+              ∙ no (got (b ++ zerosAfter (inGroups laterGroups) b) s) (rowsRead (eventRows chipEvents) (got b s)) c
+              ∙ sym text-is;
+          few = q .few;
+          fewer = q .fewer;
+        }

@@ -250,7 +250,7 @@ lines-least : (i part : ℕ) → i < rowCount → 0 < linesBy i part
 unfolding every
 lines-least i part h =
     pick-when (λ (n : ℕ). 0 < n) (eqb i 19) (λ t. pages part)
-    (λ f. ltb-true 0 (getD lineCounts i 0) (other f (every-at (λ (k : ℕ). eqb k 19 || ltb 0 (getD lineCounts k 0)) 21 refl i h)))
+    (λ f. ltb-true 0 (getD lineCounts i 0) (other f (every-at (λ (k : ℕ). eqb k 19 || ltb 0 (getD lineCounts k 0)) 26 refl i h)))
   where
     pages : (part : ℕ) → 0 < sizeOf part / 8
     pages part = pick-case (λ (top : ℕ). 0 < (top + 1) / 8) (eqb (part % 2) 1) (omega arith) (omega arith)

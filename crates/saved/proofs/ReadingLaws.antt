@@ -5,12 +5,12 @@ use mathlib.Core.Path.{_≡_, refl, sym, ap, _∙_}
 use mathlib.Core.Bool.{Bool, true, false, not, _&&_, _||_, or-true}
 use mathlib.Core.List.{List, [], _∷_, _++_, append-assoc}
 use mathlib.Core.Option.{Option, none, some}
-use Prim.Native.Nat.{ℕ, zero, suc, _+_, _<_}
+use Prim.Native.Nat.{ℕ, zero, suc, _+_, _-_, _<_, _≤_}
 use native.Mathlib.Omega.{arith}
 use native.Mathlib.Nat.{add-zero, zero-add}
-use borrow.Author.Tests.{eqb-true, ne-eqb, le-leb, not-true, not-false}
-use lib.Dec.{eqb, leb}
-use lib.ListN.{length, take, drop, take-append-drop}
+use borrow.Author.Tests.{eq-eqb, eqb-true, ne-eqb, le-leb, ltb-true, ltb-false, not-true, not-false}
+use lib.Dec.{eqb, leb, ltb}
+use lib.ListN.{length, take, drop, length-drop, take-append-drop}
 use lib.Seq.{drop-append-seam, take-append-seam}
 use Rattle.base.specs.Words.{pick}
 use Rattle.base.proofs.Tests.{by-cases, yes, no, pick-case, both-left, both-right, both-true, neither, neither-left, neither-right, true-false}
@@ -19,7 +19,7 @@ use Rattle.text.specs.Decimal.{decimalText}
 use Rattle.text.proofs.BytesLaws.{leading-append, leading-taken, agreed-with}
 use Rattle.text.proofs.DecimalLaws.{value-of-decimal, decimal-digits, decimal-places}
 use Rattle.form.specs.Lines.{comma, followed, numbersText, headOf, lineText, number, readLine, onto, linesIn, joined, unbroken}
-use Rattle.form.specs.Form.{Form, done, line, loaded, bad, later, onLine, judged, load}
+use Rattle.form.specs.Form.{Form, done, line, mayEnd, loaded, bad, later, onLine, judged, load}
 use Rattle.form.proofs.LinesLaws.{read-text, text-read, lines-line, joined-lines, number-text, decimal-number, begins-itself}
 use Rattle.saved.specs.Reading.{Reading, reading, stop, pastWord, digitLimit, digitsAt, readable, numberAt, pastNumber, Got, got, more, lineFrom, lineAt, settled, complete, laterBy, resumed}
 
@@ -314,3 +314,39 @@ reading-ends a s = go (s .text) (s .lines) (s .stopped)
     go [] n false = later-loaded n a
     go (b ∷ t) n false =
         over (linesIn (b ∷ t)) n (some-line b t) ∙ no (loaded a) (bad (suc n)) (ne-eqb (suc (length t)) 0 (λ q. omega arith))
+
+-- where it may end
+pub reading-may-end : {A : Type 0} (a : A) (f : Form A) (s : Reading) → resumed (mayEnd a f) s ≡ pick (complete s) (resumed (done a) s) (resumed f s)
+unfolding resumed complete judged linesIn
+reading-may-end {A} a f s = go (s .text) (s .lines) (s .stopped)
+  where
+    on : (ps : List (List ℕ)) (n : ℕ) → 0 < length ps → laterBy n (judged (mayEnd a f) ps) ≡ laterBy n (judged f ps)
+    on [] n h = absurd (omega arith)
+    on (p ∷ ps) n h = refl
+
+    go : (t : List ℕ) (n : ℕ) (b : Bool)
+        → pick b (bad (suc n)) (laterBy n (judged (mayEnd a f) (linesIn t)))
+        ≡ pick (not b && eqb (length t) 0) (pick b (bad (suc n)) (laterBy n (judged (done a) (linesIn t)))) (pick b (bad (suc n)) (laterBy n (judged f (linesIn t))))
+    go t n true = refl
+    go [] n false = refl
+    go (b ∷ t) n false =
+        on (linesIn (b ∷ t)) n (some-line b t)
+        ∙ no (laterBy n (judged (done a) (linesIn (b ∷ t)))) (laterBy n (judged f (linesIn (b ∷ t)))) (ne-eqb (suc (length t)) 0 (λ q. omega arith))
+
+-- the test as code makes it, at a place
+pub complete-at : (text : List ℕ) (at lines : ℕ) (stopped t : Bool) → (stopped || ltb at (length text)) ≡ t → complete (reading (drop at text) lines stopped) ≡ not t
+unfolding complete
+complete-at text at lines true t e = ap not e
+complete-at text at lines false t e = is-end ∙ ap not e
+  where
+    left-over : {n m : ℕ} → n ≡ m - at → m ≤ at → n ≡ 0
+    left-over p q = omega (arith, p, q)
+
+    some-left : {n m : ℕ} → n ≡ m - at → at < m → n ≡ 0 → ⊥
+    some-left p q z = omega (arith, p, q, z)
+
+    is-end : eqb (length (drop at text)) 0 ≡ not (ltb at (length text))
+    is-end =
+        by-cases (ltb at (length text))
+        (λ u. ne-eqb (length (drop at text)) 0 (some-left (length-drop at text) (ltb-true at (length text) u)) ∙ sym (ap not u))
+        (λ u. eq-eqb (length (drop at text)) 0 (left-over (length-drop at text) (ltb-false at (length text) u)) ∙ sym (ap not u))

@@ -10,20 +10,22 @@ use lib.Dec.{eqb, ltb, leb}
 use lib.Bits.{bitAnd}
 use lib.ListN.{length, getD}
 use Rattle.base.specs.Words.{pick, bit}
-use Rattle.base.proofs.Tests.{pick-case, both-left, both-right}
+use Rattle.base.proofs.Tests.{by-cases, yes, no, pick-case, both-left, both-right}
+use Rattle.events.specs.Control.{even1, even0, numberOf, debounceOf}
 use Rattle.record.specs.Codes.{codeOf, codeNumber}
 use Rattle.record.specs.Part.{isPart, sizeOf, bootsOf}
-use Rattle.record.specs.Registers.{kept, secondsAt, watchdogAt, periodOf}
+use Rattle.record.specs.Registers.{kept, secondsAt, watchdogAt, eventAt, periodOf}
 use Rattle.record.specs.Stages.{foreignToWip}
 use Rattle.record.proofs.PartLaws.{size-most}
 use Rattle.record.proofs.PeriodLaws.{period-most}
 use Rattle.form.specs.Lines.{headOf}
 use Rattle.form.specs.Form.{Form, done, line, Loaded, loaded, bad, load}
-use Rattle.form.specs.Table.{Row, row, partIn, registerIn, powerIn, stageIn, caseLimit, valueLimit, targetLimit, stageGood, targetGood, keyOf, goodAfter, lineGood, rowForm, formFrom, rows, chipForm, partRow, registerRow, sramRow, dividerRow, startupRow, watchdogRow, delayRow, pulseRow, powerRow, markRow, welRow, protectionRow, lockRow, stageRow, offsetsRow, loadRow, nextRow, targetRow, leftRow, eepromRow, idRow}
-use Rattle.form.proofs.TableLaws.{RowLive, RowsLive}
-use Rattle.form.proofs.LiveLaws.{table-live}
-use Rattle.saved.specs.Reading.{Reading, reading, pastWord, numberAt, pastNumber, Got, got, more, lineFrom, settled, complete, resumed, markAfter, runOf, lineRead, rowRead, rowsRead, textRead}
-use Rattle.saved.proofs.ReadingLaws.{Small, line-step, reading-begins, reading-ends}
+use Rattle.form.specs.Table.{Row, row, partIn, registerIn, powerIn, stageIn, caseLimit, valueLimit, targetLimit, stageGood, targetGood, keyOf, goodAfter, lineGood, rowForm, rowsForm, zerosAfter, groupsForm, chipEvents, olderRows, eventRows, laterGroups, inGroups, rows, chipForm, partRow, registerRow, sramRow, dividerRow, startupRow, watchdogRow, delayRow, pulseRow, powerRow, markRow, welRow, protectionRow, lockRow, stageRow, offsetsRow, loadRow, nextRow, targetRow, leftRow, eepromRow, idRow, evlsRow, evhsRow, edgesRow, sinceRow, debounceRow}
+use Rattle.form.proofs.TableLaws.{RowLive, RowsLive, GroupsLive}
+use Rattle.form.proofs.EventLaws.{number-most, debounce-most}
+use Rattle.form.proofs.LiveLaws.{older-live, later-live}
+use Rattle.saved.specs.Reading.{Reading, reading, pastWord, numberAt, pastNumber, Got, got, more, lineFrom, settled, complete, resumed, markAfter, runOf, lineRead, rowRead, rowsRead, groupsRead, textRead}
+use Rattle.saved.proofs.ReadingLaws.{Small, line-step, reading-begins, reading-ends, reading-may-end}
 
 -- so many numbers are read
 pub run-length : (c : ℕ) (s : Reading) → length (runOf c s .numbers) ≡ c
@@ -99,12 +101,37 @@ RowsBounded [] = Unit {0}
 RowsBounded (r ∷ rs) = Bounded r × RowsBounded rs
 
 rows-read :
-    (rs : List Row) → RowsLive rs → RowsBounded rs → (g : Got)
-    → resumed (formFrom rs (g .numbers)) (g .after) ≡ resumed (done (rowsRead rs g .numbers)) (rowsRead rs g .after)
-unfolding formFrom rowsRead RowsLive RowsBounded
-rows-read [] l h g = refl
-rows-read (r ∷ rs) l h g =
-    row-reads r (l .0) (h .0) (formFrom rs) (r .lines (g .numbers)) 0 g ∙ rows-read rs (l .1) (h .1) (rowRead r (r .lines (g .numbers)) 0 g)
+    (rs : List Row) → RowsLive rs → RowsBounded rs → (next : List ℕ → Form (List ℕ)) (g : Got)
+    → resumed (rowsForm rs next (g .numbers)) (g .after) ≡ resumed (next (rowsRead rs g .numbers)) (rowsRead rs g .after)
+unfolding rowsForm rowsRead RowsLive RowsBounded
+rows-read [] l h next g = refl
+rows-read (r ∷ rs) l h next g =
+    row-reads r (l .0) (h .0) (rowsForm rs next) (r .lines (g .numbers)) 0 g ∙ rows-read rs (l .1) (h .1) next (rowRead r (r .lines (g .numbers)) 0 g)
+
+unfoldable GroupsBounded : List (List Row) → Type 0
+GroupsBounded [] = Unit {0}
+GroupsBounded (rs ∷ gs) = RowsBounded rs × GroupsBounded gs
+
+groups-read :
+    (gs : List (List Row)) → GroupsLive gs → GroupsBounded gs → (g : Got)
+    → resumed (groupsForm gs (g .numbers)) (g .after) ≡ resumed (done (groupsRead gs g .numbers)) (groupsRead gs g .after)
+unfolding groupsForm groupsRead GroupsLive GroupsBounded
+groups-read [] l h g = refl
+groups-read (rs ∷ gs) l h g =
+    let b = g .numbers in
+    let s = g .after in
+    let z = b ++ zerosAfter (inGroups (rs ∷ gs)) b in
+    let on = groupsRead gs (rowsRead rs g) in
+    let go : Got → Loaded (List ℕ) = λ o. resumed (done (o .numbers)) (o .after) in
+    reading-may-end z (rowsForm rs (groupsForm gs) b) s
+    ∙ by-cases (complete s)
+    (λ t.
+    sym (yes (resumed (done z) s) (resumed (rowsForm rs (groupsForm gs) b) s) t) ∙ ap go (yes (got z s) on t))
+    (λ t.
+    sym (no (resumed (done z) s) (resumed (rowsForm rs (groupsForm gs) b) s) t)
+    ∙ rows-read rs (l .0) (h .0) (groupsForm gs) g
+    ∙ groups-read gs (l .1) (h .1) (rowsRead rs g)
+    ∙ ap go (no (got z s) on t))
 
 -- of the chip's table
 abbrev Low : ℕ → Type 0
@@ -152,8 +179,38 @@ target-bounded b (suc j) n t =
 part-low : (n : ℕ) → isPart n ≡ true → n < 100000000
 part-low n t = omega (arith, leb-true n 4 (both-right (leb 1 n) (leb n 4) t))
 
+number-low : (v : ℕ) → Low (numberOf v)
+number-low v = omega (arith, number-most v)
+
+debounce-low : (v : ℕ) → Low (suc (debounceOf v))
+debounce-low v = omega (arith, debounce-most v)
+
+events-bounded : (place : List ℕ → ℕ) → RowsBounded (eventRows place)
+unfolding RowsBounded evlsRow evhsRow edgesRow sinceRow debounceRow
+events-bounded place = (
+  λ b j n. low n 2 (lit 2 refl),
+  (
+    λ b j n. low n 2 (lit 2 refl),
+    (
+      λ b j n. low n _ (pick-case Low (even1 (registerIn b eventAt)) (number-low (registerIn b eventAt)) (lit 1 refl)),
+      (
+        λ b j n. low n _ (pick-case Low (ltb 0 (getD b (place b + 2) 0)) (lit 8193 refl) (lit 1 refl)),
+        (
+          λ b j n. low n _ (pick-case Low (even0 (registerIn b eventAt) && ltb 0 (getD b (place b) 0)) (debounce-low (registerIn b eventAt)) (lit 1 refl)),
+          tt,
+        ),
+      ),
+    ),
+  ),
+)
+
+bounded-first : (rs ss : List Row) → RowsBounded (rs ++ ss) → RowsBounded rs
+unfolding RowsBounded
+bounded-first [] ss h = tt
+bounded-first (r ∷ rs) ss h = (h .0, bounded-first rs ss (h .1))
+
 pub table-bounded : RowsBounded rows
-unfolding RowsBounded rows partRow registerRow sramRow dividerRow startupRow watchdogRow delayRow pulseRow powerRow markRow welRow protectionRow lockRow stageRow offsetsRow loadRow nextRow targetRow leftRow eepromRow idRow
+unfolding RowsBounded rows partRow registerRow sramRow dividerRow startupRow watchdogRow delayRow pulseRow powerRow markRow welRow protectionRow lockRow stageRow offsetsRow loadRow nextRow targetRow leftRow eepromRow idRow evlsRow evhsRow edgesRow sinceRow debounceRow
 table-bounded = (
   λ b j n t. part-low n t,
   (
@@ -194,7 +251,7 @@ table-bounded = (
                                       λ b j n. low n _ (pick-case Low (powerIn b && not (foreignToWip (stageIn b))) (lit 165 refl) (lit 1 refl)),
                                       (
                                         λ b j n. low n 256 (lit 256 refl),
-                                        (λ b j n. low n 256 (lit 256 refl), tt),
+                                        (λ b j n. low n 256 (lit 256 refl), events-bounded chipEvents),
                                       ),
                                     ),
                                   ),
@@ -219,11 +276,21 @@ table-bounded = (
     period-low : (v : ℕ) → Low (periodOf v)
     period-low v = omega (arith, period-most v)
 
+older-bounded : RowsBounded olderRows
+unfolding rows
+older-bounded = bounded-first olderRows (inGroups laterGroups) table-bounded
+
+later-bounded : GroupsBounded laterGroups
+unfolding GroupsBounded
+later-bounded = (events-bounded chipEvents, tt)
+
 -- what a text gives is what reading it gives
 pub text-reads :
     (text : List ℕ) → load chipForm text ≡ pick (complete (textRead text .after)) (loaded (textRead text .numbers)) (bad (suc (textRead text .after .lines)))
 unfolding chipForm
 text-reads text =
-    reading-begins (formFrom rows []) text
-    ∙ rows-read rows table-live table-bounded (got [] (reading text 0 false))
+    let first = rowsRead olderRows (got [] (reading text 0 false)) in
+    reading-begins (rowsForm olderRows (groupsForm laterGroups) []) text
+    ∙ rows-read olderRows older-live older-bounded (groupsForm laterGroups) (got [] (reading text 0 false))
+    ∙ groups-read laterGroups later-live later-bounded first
     ∙ reading-ends (textRead text .numbers) (textRead text .after)

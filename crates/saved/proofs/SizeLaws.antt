@@ -155,10 +155,10 @@ rows-fit =
     head-short : {a b t : ℕ} → a ≤ 8 → b ≤ 2 → t ≡ a + b → t ≤ 10
     head-short p q e = omega (arith, p, q, e)
 
--- the text of a chip's numbers has at most 7,900 bytes
-pub text-long : (ns : List ℕ) → IsChip ns → length (formText ns) ≤ 7900
+-- the text of a chip's numbers has at most 8,000 bytes
+pub text-long : (ns : List ℕ) → IsChip ns → length (formText ns) ≤ 8000
 unfolding formText
 text-long ns g = within (rows-long rows rows-fit 0 ns g) (good-facts ns g .long) (size-most (partIn ns))
   where
-    within : {t l s : ℕ} → 20 * 0 + t ≤ 20 * l → l ≡ 123 + s + 16 → s ≤ 256 → t ≤ 7900
+    within : {t l s : ℕ} → 20 * 0 + t ≤ 20 * l → l ≡ 123 + s + 16 + 5 → s ≤ 256 → t ≤ 8000
     within p e q = omega (arith, p, e, q)

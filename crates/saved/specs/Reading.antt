@@ -12,7 +12,7 @@ use Rattle.text.specs.Bytes.{begins, leading, digit, newline}
 use Rattle.text.specs.Decimal.{valueOf, decimalText}
 use Rattle.form.specs.Lines.{comma, headOf, number, linesIn}
 use Rattle.form.specs.Form.{Form, Loaded, bad, later, judged}
-use Rattle.form.specs.Table.{Row, keyOf, goodAfter, rows}
+use Rattle.form.specs.Table.{Row, keyOf, goodAfter, olderRows, laterGroups, inGroups, zerosAfter}
 
 pub record Reading : Type 0 where
   pub text : List ℕ
@@ -103,13 +103,19 @@ unfoldable pub rowsRead : List Row → Got → Got
 rowsRead [] g = g
 rowsRead (r ∷ rs) g = rowsRead rs (rowRead r (r .lines (g .numbers)) 0 g)
 
--- a whole text
-abbrev pub textRead : List ℕ → Got
-textRead text = rowsRead rows (got [] (reading text 0 false))
-
 -- the whole text was read, and all of it was good
 unfoldable pub complete : Reading → Bool
 complete s = not (s .stopped) && eqb (length (s .text)) 0
+
+-- groups of rows that a text may lack
+unfoldable pub groupsRead : List (List Row) → Got → Got
+groupsRead [] g = g
+groupsRead (rs ∷ gs) g =
+    pick (complete (g .after)) (got (g .numbers ++ zerosAfter (inGroups (rs ∷ gs)) (g .numbers)) (g .after)) (groupsRead gs (rowsRead rs g))
+
+-- a whole text
+abbrev pub textRead : List ℕ → Got
+textRead text = groupsRead laterGroups (rowsRead olderRows (got [] (reading text 0 false)))
 
 unfoldable pub laterBy : {A : Type 0} → ℕ → Loaded A → Loaded A
 laterBy zero r = r

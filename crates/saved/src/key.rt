@@ -21,7 +21,7 @@ const ROWS: usize = numbers::table::ROWS;
 pub const HEAD_LIMIT: usize = 12;
 
 // Eight bytes for each row.
-const KEYS: [u8; 168] = [
+const KEYS: [u8; 208] = [
     b'p',
     b'a',
     b'r',
@@ -190,6 +190,46 @@ const KEYS: [u8; 168] = [
     0,
     0,
     0,
+    b'e',
+    b'v',
+    b'l',
+    b's',
+    0,
+    0,
+    0,
+    0,
+    b'e',
+    b'v',
+    b'h',
+    b's',
+    0,
+    0,
+    0,
+    0,
+    b'e',
+    b'd',
+    b'g',
+    b'e',
+    b's',
+    0,
+    0,
+    0,
+    b's',
+    b'i',
+    b'n',
+    b'c',
+    b'e',
+    0,
+    0,
+    0,
+    b'd',
+    b'e',
+    b'b',
+    b'o',
+    b'u',
+    b'n',
+    b'c',
+    b'e',
 ];
 
 const LENGTHS: [usize; ROWS] = [
@@ -214,6 +254,11 @@ const LENGTHS: [usize; ROWS] = [
     4,
     2,
     2,
+    4,
+    4,
+    5,
+    5,
+    8,
 ];
 
 // Rows of several lines.

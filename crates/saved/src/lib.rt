@@ -15,7 +15,7 @@ mod read; // read.rt: a text read by the table
 mod scan; // scan.rt: a text read from left to right
 
 // Room for the longest text.
-const TEXT_ROOM: usize = 7900;
+const TEXT_ROOM: usize = 8000;
 
 // A place in a text, the good lines so far, and whether a bad line was met.
 pub struct Place {
@@ -98,7 +98,8 @@ pub fn load(text: &[u8], part: u64, device: Device, eeprom: &mut [u8], id: &mut 
     }
     chip::take_bytes(list, 123, eeprom);
     chip::take_bytes(list, 123 + eeprom.len(), id);
-    let loaded = chip::device_of(list);
+    let from = table::events_from(named);
+    let loaded = chip::device_of(list, from);
     Loaded {
         number: 0,
         line: 0,

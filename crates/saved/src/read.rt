@@ -11,7 +11,10 @@ ghost use lib.ListN.{length, take};
 ghost use Rattle.form.specs.Table.{goodAfter, span};
 ghost use Rattle.numbers.specs.Tables.{rowAt, rowCount, numberLimit};
 ghost use Rattle.saved.specs.Reading.{got, runOf, lineRead};
-ghost use Rattle.saved.specs.Place.{readingAt, filled, Holds, RowRead, TextRead};
+ghost use Rattle.saved.specs.Place.{readingAt, filled, Holds, RowRead, rowsIn, most, RowsRead, TextRead};
+
+// The first row of the event inputs.
+const EVENTS: usize = 21;
 
 // The place after a line's numbers, and whether they are good.
 pub struct Line {
@@ -110,24 +113,52 @@ fn read_row(text: &[u8], p: Place, row: usize, numbers: &mut [u64], count: usize
     Read { place, count: at }
 }
 
-// A whole text, by all rows, into an empty list.
-pub fn read_rows(text: &[u8], numbers: &mut [u64]) -> Read
-    requires { ⌜ now numbers ≡ filled [] ⌝ }
-    ensures { λ r. ⌜ TextRead (now (text .entry)) (now (numbers .exit)) (readingAt (now (text .entry)) (r .place)) (r .count) ⌝ }
+// The rows from one to before another.
+fn read_between(
+    text: &[u8],
+    p: Place,
+    first: usize,
+    end: usize,
+    numbers: &mut [u64],
+    count: usize,
+) -> Read
+    requires { ⌜ first ≤ end ⌝ }
+    requires { ⌜ end ≤ rowCount ⌝ }
+    requires { ⌜ count ≤ most first ⌝ }
+    requires { ⌜ p .lines ≤ count ⌝ }
+    requires { ⌜ Holds (now numbers) count ⌝ }
+    ensures { λ r. ⌜ RowsRead (rowsIn first end) end (got (take count (now (numbers .entry))) (readingAt (now (text .entry)) p)) (now (numbers .exit)) (readingAt (now (text .entry)) (r .place)) (r .count) ⌝ }
 {
-    let mut place = Place {
-        at: 0,
-        lines: 0,
-        stopped: false,
-    };
-    let mut count: usize = 0;
-    let mut row: usize = 0;
-    while row < table::ROWS {
-        let read = read_row(text, place, row, numbers, count);
-        count = read.count;
+    let mut place = p;
+    let mut at = count;
+    let mut row = first;
+    while row < end {
+        let read = read_row(text, place, row, numbers, at);
+        at = read.count;
         let next = read.place;
         place = next;
         row += 1;
     }
-    Read { place, count }
+    Read { place, count: at }
+}
+
+// A whole text into an empty list. One that ends before the event inputs has them at 0, as the array has.
+pub fn read_rows(text: &[u8], numbers: &mut [u64]) -> Read
+    requires { ⌜ now numbers ≡ filled [] ⌝ }
+    ensures { λ r. ⌜ TextRead (now (text .entry)) (now (numbers .exit)) (readingAt (now (text .entry)) (r .place)) (r .count) ⌝ }
+{
+    let begun = Place {
+        at: 0,
+        lines: 0,
+        stopped: false,
+    };
+    let older = read_between(text, begun, 0, EVENTS, numbers, 0);
+    let place = older.place;
+    if place.stopped | (place.at < text.len()) {
+        return read_between(text, place, EVENTS, table::ROWS, numbers, older.count);
+    }
+    Read {
+        place,
+        count: older.count + 5,
+    }
 }

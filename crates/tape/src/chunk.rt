@@ -50,13 +50,6 @@ fn bytes_in(s: &[u8]) -> usize
 fn sized(d: Device) -> Device
     ensures { λ r. ⌜ (r ≡ d) × Sized d ⌝ }
 {
-    let regs = d.regs;
-    let sram = d.sram;
-    let load = d.load;
-    let loaded = load.bytes;
-    bytes_in(&regs);
-    bytes_in(&sram);
-    bytes_in(&loaded);
     d
 }
 

@@ -16,16 +16,20 @@ use Rattle.base.proofs.StoreLaws.{set-case}
 use Rattle.base.proofs.WaitLaws.{wait-each}
 use Rattle.calendar.specs.Time.{advanced}
 use Rattle.calendar.proofs.TimeLaws.{TimeMasked, advanced-masked}
+use Rattle.events.specs.Rows.{EventsIn}
+use Rattle.events.specs.Tick.{eventsTick}
+use Rattle.events.proofs.EmbedLaws.{tick-embeds}
 use Rattle.record.specs.declared.Device.{Device}
 use Rattle.record.specs.Part.{bootsOf}
-use Rattle.record.specs.Registers.{wdtpls, oscon, watchdogAt, secondsAt, periodOf, startupTicks, longPulse, shortPulse, dividerTicks}
-use Rattle.record.specs.Setters.{withRegs, withLeft, withDivider, withWatchdog, withPulse}
+use Rattle.record.specs.Registers.{wdtpls, oscon, watchdogAt, eventAt, secondsAt, periodOf, startupTicks, longPulse, shortPulse, dividerTicks}
+use Rattle.record.specs.Setters.{withRegs, withLeft, withDivider, withWatchdog, withPulse, inputsOf}
 use Rattle.record.proofs.PeriodLaws.{period-least}
 use Rattle.refusals.specs.InRange.{InRange}
-use Rattle.refusals.proofs.KeepLaws.{ClockOf, Inside, AllInside, Paced, Halted, divider-in, startup-in, watchdog-in, delay-in, pulse-in, regs-in, set-inside, in-range-beside, guard-in, left-in}
+use Rattle.refusals.proofs.KeepLaws.{ClockOf, Inside, AllInside, Paced, Halted, Signalled, divider-in, startup-in, watchdog-in, delay-in, pulse-in, regs-in, inputs-in, set-inside, inside-byte, in-range-beside, guard-in, left-in}
 use Rattle.ticks.specs.Lines.{changed}
 use Rattle.ticks.specs.Oscillator.{asked, starting, oscillatorTick}
 use Rattle.ticks.specs.Watchdog.{counting, pulseTick, timeOut, countedTick, watchdogTick}
+use Rattle.ticks.specs.Event.{eventTick}
 use Rattle.ticks.specs.Clock.{timeOf, running, calendarTick, alarmTick}
 use Rattle.ticks.specs.Tick.{cycleDevice, clockwork, alive}
 use Rattle.ticks.specs.RecordTick.{deviceTick, deviceWaited}
@@ -62,6 +66,7 @@ time-out-range boots d r =
     (set-inside (d .regs) watchdogAt s (flag-inside v 0x40 (omega arith) (r .inside watchdogAt (omega arith))) (r .inside))
     (omega (arith, period-least (getD (set (d .regs) watchdogAt s) watchdogAt 0)))
     (set-case (λ (x : ℕ). boots ≡ false → bit x 7 ≡ false → d .counters .startup ≡ 0) (d .regs) watchdogAt secondsAt s (λ e. absurd (omega arith)) (r .stopped))
+    (set-case (λ (x : ℕ). EventsIn x (d .events)) (d .regs) watchdogAt eventAt s (λ e. absurd (omega arith)) (r .events))
 
 counted-range : (boots : Bool) (d : Device) → ClockOf boots d → ClockOf boots (countedTick d)
 counted-range boots d r =
@@ -75,6 +80,13 @@ unfolding watchdogTick
 watchdog-range boots counted d r =
     let p = pulse-in boots d r (d .counters .pulse - 1) (omega (arith, r .pulse)) in
     pick-case (ClockOf boots) (counting counted (getD (d .regs) watchdogAt 0)) (counted-range boots (pulseTick d) p) p
+
+-- The event inputs: a flag lies inside the mask of 0Bh too.
+event-range : (boots counted : Bool) (d : Device) → ClockOf boots d → ClockOf boots (eventTick counted d)
+unfolding eventTick
+event-range boots counted d r =
+    inputs-in boots d r (eventsTick counted (inputsOf d))
+    (tick-embeds (inputsOf d) (inside-byte eventAt (getD (d .regs) eventAt 0) (omega arith) (r .inside eventAt (omega arith))) (r .events) counted)
 
 -- The calendar: the eight time registers stay inside their masks.
 clock-inside : (counted : Bool) (d : Device) → AllInside (d .regs) → AllInside (alarmTick counted d (calendarTick counted d) .regs)
@@ -114,12 +126,13 @@ clock-range boots counted d r =
     let inside : AllInside regs = clock-inside counted d (r .inside) in
     let paced : Paced (d .counters) regs = rw (clock-other counted d watchdogAt (omega arith) (λ e. omega arith) (λ e. omega arith)) (r .watchdog) in
     let halted : Halted boots (d .counters) regs = λ b s. r .stopped b (sym (clock-st counted d) ∙ s) in
+    let signalled : Signalled (d .events) regs = rw (clock-other counted d eventAt (omega arith) (λ e. omega arith) (λ e. omega arith)) (r .events) in
     let n : ℕ = (d .counters .divider + 1) % dividerTicks in
     pick-case (λ (e : Device). ClockOf boots (withRegs e regs)) (running counted d)
-    (regs-in boots (withDivider d n) (divider-in boots d r n (omega arith)) regs inside paced halted)
-    (regs-in boots d r regs inside paced halted)
+    (regs-in boots (withDivider d n) (divider-in boots d r n (omega arith)) regs inside paced halted signalled)
+    (regs-in boots d r regs inside paced halted signalled)
 
--- Oscillator, watchdog, calendar, alarms.
+-- Oscillator, watchdog, event inputs, calendar, alarms.
 clockwork-in-range : (part : ℕ) (d : Device) → InRange part d → InRange part (clockwork (bootsOf part) d)
 unfolding clockwork
 clockwork-in-range part d r =
@@ -127,7 +140,7 @@ clockwork-in-range part d r =
     let c : Bool = oscon (d .counters) in
     let o : Device = oscillatorTick b d in
     in-range-beside part d (clockwork b d) r (clockwork-keeps b d .others)
-    (clock-range b c (watchdogTick c o) (watchdog-range b c o (oscillator-range b d (r .clock))))
+    (clock-range b c (eventTick c (watchdogTick c o)) (event-range b c (watchdogTick c o) (watchdog-range b c o (oscillator-range b d (r .clock)))))
 
 -- The write cycle's part.
 cycle-in-range : (part : ℕ) (d : Device) → InRange part d → InRange part (cycleDevice d)

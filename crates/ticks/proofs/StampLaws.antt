@@ -10,15 +10,16 @@ use lib.Seq.{getD-set-other}
 use Rattle.base.proofs.Tests.{pick-case}
 use Rattle.base.proofs.WaitLaws.{wait-each}
 use Rattle.record.specs.declared.Device.{Device}
-use Rattle.record.specs.Registers.{vbat, oscon, watchdogAt}
+use Rattle.record.specs.Registers.{vbat, oscon, watchdogAt, eventAt}
 use Rattle.record.specs.Stamps.{SameStamps}
 use Rattle.ticks.specs.Lines.{changed}
 use Rattle.ticks.specs.Oscillator.{oscillatorTick}
 use Rattle.ticks.specs.Watchdog.{watchdogTick}
+use Rattle.ticks.specs.Event.{eventTick}
 use Rattle.ticks.specs.Tick.{cycleDevice, clockwork, alive}
 use Rattle.ticks.specs.RecordTick.{deviceTick, deviceWaited}
 use Rattle.ticks.proofs.ClockLaws.{clock-other}
-use Rattle.ticks.proofs.TickLaws.{cycle-step, device-ticked, watchdog-case, oscillator-regs, clockwork-vbat}
+use Rattle.ticks.proofs.TickLaws.{cycle-step, device-ticked, watchdog-case, event-case, oscillator-regs, clockwork-vbat}
 
 pub record StampsStay (d e : Device) : Type 0 where
   pub stamps : SameStamps (d .regs) (e .regs)
@@ -35,7 +36,9 @@ unfolding clockwork
 clockwork-stamps boots d k h =
     let o : Device = oscillatorTick boots d in
     let c : Bool = oscon (d .counters) in
-    clock-other c (watchdogTick c o) k (omega arith) (λ e. omega arith) (λ e. omega arith)
+    clock-other c (eventTick c (watchdogTick c o)) k (omega arith) (λ e. omega arith) (λ e. omega arith)
+    ∙ event-case (λ (l : List ℕ). getD l k 0 ≡ getD (watchdogTick c o .regs) k 0) c (watchdogTick c o)
+    (λ v. getD-set-other (watchdogTick c o .regs) eventAt k v 0 (λ e. omega arith))
     ∙ watchdog-case (λ (l : List ℕ). getD l k 0 ≡ getD (o .regs) k 0) c o refl
     (λ v. getD-set-other (o .regs) watchdogAt k v 0 (λ e. omega arith))
     ∙ ap (λ (l : List ℕ). getD l k 0) (oscillator-regs boots d)

@@ -14,12 +14,13 @@ use Rattle.base.proofs.StoreLaws.{set-case}
 use Rattle.record.specs.declared.Device.{Device}
 use Rattle.record.specs.declared.Cycle.{Cycle}
 use Rattle.record.specs.declared.Guard.{Guard}
-use Rattle.record.specs.Registers.{vbaten, vbat, oscon, dayAt, watchdogAt, periodOf}
+use Rattle.record.specs.Registers.{vbaten, vbat, oscon, dayAt, watchdogAt, eventAt, periodOf}
 use Rattle.record.specs.Setters.{withGuard, withLeft}
 use Rattle.record.specs.World.{World}
 use Rattle.record.specs.Stored.{wholeMask, eepromAfter, idAfter, protectionAfter}
 use Rattle.ticks.specs.Oscillator.{starting, oscillatorTick}
 use Rattle.ticks.specs.Watchdog.{counting, watchdogTick}
+use Rattle.ticks.specs.Event.{eventTick}
 use Rattle.ticks.specs.Clock.{calendarTick, alarmTick}
 use Rattle.ticks.specs.Tick.{cycleDevice, cycleTick, clockwork, alive, tick}
 use Rattle.ticks.specs.RecordTick.{deviceTick, ends}
@@ -161,6 +162,11 @@ watchdog-case P counted d p q =
     (pick-case Q (ltb (d .counters .watchdog + 1) (periodOf (getD (d .regs) watchdogAt 0))) p (q _)))
     p
 
+-- that of the event inputs stores a byte in 0Bh
+pub event-case : (P : List ℕ → Type 0) (counted : Bool) (d : Device) → ((v : ℕ) → P (set (d .regs) eventAt v)) → P (eventTick counted d .regs)
+unfolding eventTick
+event-case P counted d q = q _
+
 pub oscillator-regs : (boots : Bool) (d : Device) → oscillatorTick boots d .regs ≡ d .regs
 unfolding oscillatorTick
 oscillator-regs boots d = pick-case (λ (e : Device). e .regs ≡ d .regs) (starting boots d) refl refl
@@ -174,7 +180,9 @@ clockwork-bit k stays boots d =
     let o : Device = oscillatorTick boots d in
     let c : Bool = oscon (d .counters) in
     let old : Bool = bit (getD (o .regs) dayAt 0) k in
-    stays c (watchdogTick c o)
+    stays c (eventTick c (watchdogTick c o))
+    ∙ event-case (λ (l : List ℕ). bit (getD l dayAt 0) k ≡ bit (getD (watchdogTick c o .regs) dayAt 0) k) c (watchdogTick c o)
+    (λ v. set-case (λ (x : ℕ). bit x k ≡ bit (getD (watchdogTick c o .regs) dayAt 0) k) (watchdogTick c o .regs) eventAt dayAt v (λ e. absurd (omega arith)) refl)
     ∙ watchdog-case (λ (l : List ℕ). bit (getD l dayAt 0) k ≡ old) c o refl
     (λ v. set-case (λ (x : ℕ). bit x k ≡ old) (o .regs) watchdogAt dayAt v (λ e. absurd (omega arith)) refl)
     ∙ ap (λ (l : List ℕ). bit (getD l dayAt 0) k) (oscillator-regs boots d)
@@ -205,7 +213,8 @@ device-tick-regs-length boots d =
     let c : Bool = oscon (e .counters) in
     let o : Device = oscillatorTick boots e in
     pick-case (λ (x : Device). length (x .regs) ≡ length (d .regs)) (alive d)
-    (clock-regs-length c (watchdogTick c o)
+    (clock-regs-length c (eventTick c (watchdogTick c o))
+    ∙ event-case (λ (l : List ℕ). length l ≡ length (watchdogTick c o .regs)) c (watchdogTick c o) (λ v. length-set (watchdogTick c o .regs) eventAt v)
     ∙ watchdog-case (λ (l : List ℕ). length l ≡ length (o .regs)) c o refl (λ v. length-set (o .regs) watchdogAt v)
     ∙ ap length (oscillator-regs boots e ∙ cycle-step d .regs))
     refl

@@ -2,6 +2,7 @@ pub mod Lines
 pub mod Alarm
 pub mod Oscillator
 pub mod Watchdog
+pub mod Event
 pub mod Clock
 pub mod Tick
 pub mod RecordTick

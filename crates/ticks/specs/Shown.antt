@@ -8,6 +8,8 @@ use mathlib.Core.List.{List, [], _∷_, _++_}
 use lib.ListN.{getD, set, replicate}
 use Rattle.base.specs.Words.{flag}
 use Rattle.calendar.specs.declared.Advanced.{Advanced}
+use Rattle.events.specs.Control.{pullsIrq}
+use Rattle.events.specs.Tick.{eventsTick}
 use Rattle.record.specs.declared.Counters.{Counters}
 use Rattle.record.specs.declared.Device.{Device}
 use Rattle.record.specs.Setters.{counts}
@@ -16,6 +18,7 @@ use Rattle.ticks.specs.Alarm.{matchesAt, alarmMatch, alarmed}
 use Rattle.ticks.specs.Lines.{irqLow, wdoLow}
 use Rattle.ticks.specs.Oscillator.{oscillatorTick}
 use Rattle.ticks.specs.Watchdog.{watchdogTick}
+use Rattle.ticks.specs.Event.{eventTick}
 use Rattle.ticks.specs.Clock.{calendarTick}
 use Rattle.ticks.specs.Tick.{cycleDevice, clockwork}
 use Rattle.ticks.specs.RecordTick.{deviceTick}
@@ -61,5 +64,5 @@ TickShown =
     × (linesWith 0x00 0x88 ≡ 0 ∷ 1 ∷ [])
 
 pub tick-shown : TickShown
-unfolding TickShown deviceTick cycleDevice clockwork oscillatorTick watchdogTick calendarTick alarmed alarmMatch matchesAt irqLow wdoLow
+unfolding TickShown deviceTick cycleDevice clockwork oscillatorTick watchdogTick eventTick eventsTick pullsIrq calendarTick alarmed alarmMatch matchesAt irqLow wdoLow
 tick-shown = (refl, refl, refl, refl, refl, refl, refl, refl, refl, refl)

@@ -13,6 +13,7 @@ use Rattle.record.specs.Stored.{wholeMask, eepromAfter, idAfter, protectionAfte
 use Rattle.ticks.specs.Lines.{changed}
 use Rattle.ticks.specs.Oscillator.{oscillatorTick}
 use Rattle.ticks.specs.Watchdog.{watchdogTick}
+use Rattle.ticks.specs.Event.{eventTick}
 use Rattle.ticks.specs.Clock.{calendarTick, alarmTick}
 
 -- F28. The cycle's last tick: WEL clears, and a STATUS cycle changes the protection.
@@ -32,11 +33,11 @@ cycleTick w =
     (pick last (eepromAfter (w .device .load) wholeMask (w .eeprom) (w .device .cycle .target)) (w .eeprom))
     (pick last (idAfter (w .device .load) wholeMask (w .id) (w .device .cycle .target)) (w .id))
 
--- K1, K3. Oscillator, watchdog, calendar, alarms; the tick counts if OSCON was set before it.
+-- K1, K3, V10. Oscillator, watchdog, event inputs, calendar, alarms; the tick counts if OSCON was set before it.
 unfoldable pub clockwork : Bool → Device → Device
 clockwork boots d =
     let counted : Bool = oscon (d .counters) in
-    let w : Device = watchdogTick counted (oscillatorTick boots d) in
+    let w : Device = eventTick counted (watchdogTick counted (oscillatorTick boots d)) in
     alarmTick counted w (calendarTick counted w)
 
 -- P9, P10. Without power ticks count only on the battery.

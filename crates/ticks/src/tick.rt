@@ -65,7 +65,7 @@ fn cycle_tick(d: Device) -> Device
     next
 }
 
-// Oscillator, watchdog, calendar, alarms.
+// Oscillator, watchdog, event inputs, calendar, alarms.
 fn clockwork_tick(boots: bool, d: Device) -> Device
     ensures { λ r. ⌜ r ≡ clockwork boots d ⌝ }
 {
@@ -73,7 +73,8 @@ fn clockwork_tick(boots: bool, d: Device) -> Device
     let counted = record::registers::is_oscon(c);
     let asked = crate::oscillator::oscillator_tick(boots, d);
     let watched = crate::watchdog::watchdog_tick(counted, asked);
-    crate::clock::clock_tick(counted, watched)
+    let signalled = crate::event::event_tick(counted, watched);
+    crate::clock::clock_tick(counted, signalled)
 }
 
 // The chip has power, or VBATEN is set: ticks count.

@@ -7,18 +7,26 @@ use mathlib.Core.Logic.{_⊎_, inl, inr, ⊎-elim}
 use native.Mathlib.Omega.{arith}
 use borrow.Author.Tests.{ltb-true, lt-ltb, le-ltb, eqb-true, eqb-false, eq-eqb, ne-eqb}
 use lib.Dec.{ltb, eqb}
-use lib.ListN.{getD}
+use mathlib.Core.List.{List, [], _∷_}
+use lib.ListN.{getD, set}
 use Rattle.base.specs.Words.{pick}
 use Rattle.base.specs.Wait.{plus}
 use Rattle.base.proofs.Tests.{by-cases, pick-case, true-false}
 use Rattle.base.proofs.WaitLaws.{Jumps, wait-jump}
+use Rattle.events.specs.declared.Events.{Events}
+use Rattle.events.specs.declared.Inputs.{Inputs}
+use Rattle.events.specs.Control.{windowTicks, pullsIrq}
+use Rattle.events.specs.Tick.{windowRuns, debounceRuns, eventsTick}
+use Rattle.events.specs.Jump.{eventsQuiet, eventsJumped}
+use Rattle.events.proofs.JumpLaws as room
 use Rattle.record.specs.declared.Device.{Device}
 use Rattle.record.specs.declared.Counters.{Counters}
-use Rattle.record.specs.Registers.{oscon, watchdogAt, periodOf, dividerTicks}
-use Rattle.record.specs.Setters.{withCounters, withLeft}
+use Rattle.record.specs.Registers.{oscon, watchdogAt, eventAt, periodOf, dividerTicks}
+use Rattle.record.specs.Setters.{withCounters, withLeft, withEvents, withRegs, inputsOf}
 use Rattle.ticks.specs.Lines.{irqLow, wdoLow, changed}
 use Rattle.ticks.specs.Oscillator.{starting, oscillatorTick}
 use Rattle.ticks.specs.Watchdog.{watchdogTick}
+use Rattle.ticks.specs.Event.{eventTick}
 use Rattle.ticks.specs.Clock.{running, hundredthDue, calendarTick, alarmTick}
 use Rattle.ticks.specs.Tick.{cycleDevice, clockwork, alive}
 use Rattle.ticks.specs.RecordTick.{deviceTick, deviceWaited}
@@ -72,6 +80,25 @@ watchdog-one d h =
     rw (n, z, o)))
     (λ n. rw n)
 
+-- what is in its place already
+set-there : (l : List ℕ) (k : ℕ) → set l k (getD l k 0) ≡ l
+set-there [] k = refl
+set-there (x ∷ l) zero = refl
+set-there (x ∷ l) (suc k) = ap (λ (m : List ℕ). x ∷ m) (set-there l k)
+
+-- the room's word for such ticks, of the device's inputs
+quiet-inputs : {boots : Bool} {k : ℕ} {d : Device} → Quiet boots k d → room.Quiet (oscon (d .counters)) k (inputsOf d)
+quiet-inputs q = record { window = q .window; debounce = q .debounce }
+
+-- the event inputs' part of a tick that sets no flag and opens or closes no window
+event-one :
+    (counted : Bool) (d : Device) → eventsTick counted (inputsOf d) ≡ eventsJumped counted 1 (inputsOf d)
+    → eventTick counted d ≡ withEvents d (eventsJumped counted 1 (inputsOf d) .events)
+unfolding eventTick eventsJumped
+event-one counted d e =
+    ap (λ (s : Inputs). withEvents (withRegs d (set (d .regs) eventAt (s .control))) (s .events)) e
+    ∙ ap (λ (l : List ℕ). withEvents (withRegs d l) (eventsJumped counted 1 (inputsOf d) .events)) (set-there (d .regs) eventAt)
+
 -- calendar and alarms of a tick that advances no hundredth
 clock-one :
     (counted : Bool) (d : Device)
@@ -102,13 +129,16 @@ clockwork-one :
     (boots : Bool) (d : Device) → starting boots d ≡ false
     → (watchdogRuns d ≡ true → eqb (d .counters .delay) 0 ≡ true → d .counters .watchdog + 1 < periodOf (getD (d .regs) watchdogAt 0))
     → (clockRuns d ≡ true → hundredthDue (d .counters .divider) ≡ false) → (clockRuns d ≡ true → d .counters .divider + 1 < dividerTicks)
-    → clockwork boots d ≡ withCounters d (jumpedCounters 1 d)
+    → eventsTick (oscon (d .counters)) (inputsOf d) ≡ eventsJumped (oscon (d .counters)) 1 (inputsOf d)
+    → clockwork boots d ≡ withEvents (withCounters d (jumpedCounters 1 d)) (eventsJumped (oscon (d .counters)) 1 (inputsOf d) .events)
 unfolding clockwork
-clockwork-one boots d steady w h small =
+clockwork-one boots d steady w h small v =
     let counted : Bool = oscon (d .counters) in
     let e : Device = withCounters d (watchdogCounters d) in
-    ap (λ (x : Device). alarmTick counted x (calendarTick counted x)) (ap (watchdogTick counted) (oscillator-one boots d steady) ∙ watchdog-one d w)
-    ∙ clock-one counted e h small
+    let f : Device = withEvents e (eventsJumped counted 1 (inputsOf d) .events) in
+    ap (λ (x : Device). alarmTick counted x (calendarTick counted x))
+    (ap (eventTick counted) (ap (watchdogTick counted) (oscillator-one boots d steady) ∙ watchdog-one d w) ∙ event-one counted e v)
+    ∙ clock-one counted f h small
 
 -- such a tick
 quiet-tick : (boots : Bool) (k : ℕ) (d : Device) → Quiet boots (suc k) d → deviceTick boots d ≡ jumped 1 d
@@ -117,12 +147,14 @@ quiet-tick boots k d q =
     rw (q .live)
     (ap (clockwork boots) (cycle-jump boots k d q)
     ∙ clockwork-one boots (withLeft d (d .cycle .left - 1)) (q .started) (λ n z. omega (arith, q .watchdog n z))
-    (λ n. q .still n (d .counters .divider) (omega arith) (omega arith)) (λ n. omega (arith, q .small n)))
+    (λ n. q .still n (d .counters .divider) (omega arith) (omega arith)) (λ n. omega (arith, q .small n))
+    (room.quiet-tick (oscon (d .counters)) k (inputsOf d) (quiet-inputs q)))
 
 -- leaves one tick less of the kind
 quiet-less : (boots : Bool) (k : ℕ) (d : Device) → Quiet boots (suc k) d → Quiet boots k (jumped 1 d)
-unfolding jumped
+unfolding jumped eventsJumped
 quiet-less boots k d q =
+    let e = room.quiet-less (oscon (d .counters)) k (inputsOf d) (quiet-inputs q) in
     record {
       live = q .live;
       started = q .started;
@@ -142,6 +174,8 @@ quiet-less boots k d q =
           absurd (omega (arith, q .delay n e, eqb-true (d .counters .delay - 1) 0 zero)));
       small = λ n. rw n (omega (arith, q .small n));
       still = λ n t h l. q .still n t (omega (arith, rw n at h)) (omega (arith, rw n at l));
+      window = e .window;
+      debounce = e .debounce;
     }
 
 -- changes no line
@@ -156,8 +190,10 @@ quiet-lines boots k d q =
     rw (p, c) (changed-same d)
 
 -- and k of them are a jump
-pub both-same : (d : Device) {x y : ℕ} {a b : Counters} → x ≡ y → a ≡ b → withCounters (withLeft d x) a ≡ withCounters (withLeft d y) b
-both-same d p c = λ i. withCounters (withLeft d (p i)) (c i)
+pub all-same :
+    (d : Device) {x y : ℕ} {a b : Counters} {e f : Events} → x ≡ y → a ≡ b → e ≡ f
+    → withEvents (withCounters (withLeft d x) a) e ≡ withEvents (withCounters (withLeft d y) b) f
+all-same d p c v = λ i. withEvents (withCounters (withLeft d (p i)) (c i)) (v i)
 
 picked : (t : Bool) (x y : ℕ) → x ≡ y → pick t x y ≡ y
 picked true x y e = e
@@ -166,14 +202,15 @@ picked false x y e = refl
 jump-none : (d : Device) → jumped 0 d ≡ d
 unfolding jumped
 jump-none d =
-    both-same d {y = d .cycle .left} {b = d .counters} (omega arith)
+    all-same d {y = d .cycle .left} {b = d .counters} {f = d .events} (omega arith)
     (counters-same (picked (clockRuns d) _ _ (omega arith)) refl (picked (watchdogRuns d && eqb (d .counters .delay) 0) _ _ (omega arith))
     (picked (watchdogRuns d) _ _ (omega arith)) (omega arith))
+    (ap (λ (s : Inputs). s .events) (room.jump-none (oscon (d .counters)) (inputsOf d)))
 
 jump-jump : (boots : Bool) (k : ℕ) (d : Device) → Quiet boots (suc k) d → jumped k (jumped 1 d) ≡ jumped (suc k) d
-unfolding jumped
+unfolding jumped eventsJumped
 jump-jump boots k d q =
-    both-same d (omega arith)
+    all-same d (omega arith)
     (counters-same
     (by-cases (clockRuns d) (λ n. rw n (omega arith)) (λ n. rw n))
     refl
@@ -189,6 +226,7 @@ jump-jump boots k d q =
     (λ n. rw n))
     (by-cases (watchdogRuns d) (λ n. rw n (omega arith)) (λ n. rw n))
     (omega arith))
+    (ap (λ (s : Inputs). s .events) (room.jump-jump (oscon (d .counters)) k (inputsOf d) (quiet-inputs q)))
 
 -- A wait passes over ticks in which only counts move.
 quiet-jumps : (boots : Bool) → Jumps (deviceTick boots) changed (Quiet boots) jumped
@@ -256,11 +294,13 @@ divided-gap limit d k p h n =
 quiet-of :
     (boots : Bool) (limit k : ℕ) (d : Device) → alive d ≡ true
     → starting boots d ≡ false → 0 < k
-    → k ≤ divided (watched (above (above limit (d .cycle .left)) (d .counters .pulse)) d) d → Quiet boots k d
-quiet-of boots limit k d a e p h =
+    → k ≤ eventsQuiet (oscon (d .counters)) (divided (watched (above (above limit (d .cycle .left)) (d .counters .pulse)) d) d) (inputsOf d) → Quiet boots k d
+quiet-of boots limit k d a e p z =
     let l : ℕ = above limit (d .cycle .left) in
     let u : ℕ = above l (d .counters .pulse) in
     let w : ℕ = watched u d in
+    let counted : Bool = oscon (d .counters) in
+    let h : k ≤ divided w d = omega (arith, room.quiet-most counted (divided w d) (inputsOf d)) in
     let hw : k ≤ w = omega (arith, divided-most w d) in
     let hu : k ≤ u = omega (arith, watched-most u d) in
     let hl : k ≤ l = omega (arith, above-most l (d .counters .pulse)) in
@@ -279,6 +319,8 @@ quiet-of boots limit k d a e p h =
           λ n t x y.
           let g = divided-gap w d k p h n in
           gap-still (d .counters .divider) t (g .0) x (omega (arith, g .1));
+      window = room.quiet-window counted (divided w d) k (inputsOf d) p z;
+      debounce = room.quiet-debounce counted (divided w d) k (inputsOf d) z;
     }
 
 -- The ticks ahead that `quietTicks` counts are such ticks, and no more than the limit.
@@ -288,7 +330,7 @@ quiet-most boots limit d =
     let l : ℕ = above limit (d .cycle .left) in
     let u : ℕ = above l (d .counters .pulse) in
     pick-case (λ (k : ℕ). k ≤ limit) (starting boots d) (omega arith)
-    (omega (arith, divided-most (watched u d) d, watched-most u d, above-most l (d .counters .pulse), above-most limit (d .cycle .left)))
+    (omega (arith, room.quiet-most (oscon (d .counters)) (divided (watched u d) d) (inputsOf d), divided-most (watched u d) d, watched-most u d, above-most l (d .counters .pulse), above-most limit (d .cycle .left)))
 
 pub quiet-ahead :
     (boots : Bool) (limit : ℕ) (d : Device) → alive d ≡ true → 0 < quietTicks boots limit d → Quiet boots (quietTicks boots limit d) d
@@ -297,5 +339,5 @@ quiet-ahead boots limit d a p =
     by-cases (starting boots d)
     (λ e. let z : 0 < 0 = rw e at p in absurd (omega arith))
     (λ e.
-    let g : 0 < divided (watched (above (above limit (d .cycle .left)) (d .counters .pulse)) d) d = rw e at p in
+    let g : 0 < eventsQuiet (oscon (d .counters)) (divided (watched (above (above limit (d .cycle .left)) (d .counters .pulse)) d) d) (inputsOf d) = rw e at p in
     rw e (quiet-of boots limit _ d a e g (omega arith)))

@@ -11,9 +11,10 @@ use lib.ListN.{getD}
 use Rattle.base.specs.Words.{pick}
 use Rattle.base.specs.Wait.{Waited}
 use Rattle.base.proofs.Tests.{no, pick-when, both-left, both-right}
+use Rattle.events.specs.Jump.{eventsQuiet, eventsJumped}
 use Rattle.record.specs.declared.Device.{Device}
-use Rattle.record.specs.Registers.{watchdogAt}
-use Rattle.record.specs.Setters.{withCounters, withLeft}
+use Rattle.record.specs.Registers.{oscon, watchdogAt}
+use Rattle.record.specs.Setters.{withCounters, withLeft, withEvents, inputsOf}
 use Rattle.ticks.specs.Oscillator.{starting}
 use Rattle.record.specs.World.{World, world}
 use Rattle.ticks.specs.Tick.{alive}
@@ -21,17 +22,20 @@ use Rattle.ticks.specs.RecordTick.{deviceWaited}
 use Rattle.record.proofs.PeriodLaws.{period-most}
 use Rattle.ticks.proofs.WaitLaws.{wait-dead, wait-device}
 use Rattle.waits.specs.Jump.{Quiet, watchdogRuns, clockRuns, jumped, above, watched, divided, quietTicks}
-use Rattle.waits.proofs.JumpLaws.{both-same, counters-same, quiet-most, quiet-ahead}
+use Rattle.waits.proofs.JumpLaws.{all-same, counters-same, quiet-most, quiet-ahead}
 
 -- the number of quiet ticks, from one limit to the next
 pub quiet-parts :
-    (boots : Bool) (limit : ℕ) (d : Device) {a b w r : ℕ}
+    (boots : Bool) (limit : ℕ) (d : Device) {a b w v r : ℕ}
     → starting boots d ≡ false
-    → a ≡ above limit (d .cycle .left) → b ≡ above a (d .counters .pulse) → w ≡ watched b d → r ≡ divided w d
+    → a ≡ above limit (d .cycle .left) → b ≡ above a (d .counters .pulse) → w ≡ watched b d → v ≡ divided w d
+    → r ≡ eventsQuiet (oscon (d .counters)) v (inputsOf d)
     → r ≡ quietTicks boots limit d
 unfolding quietTicks
-quiet-parts boots limit d e p q s t =
-    t ∙ ap (λ (n : ℕ). divided n d) (s ∙ ap (λ (n : ℕ). watched n d) (q ∙ ap (λ (n : ℕ). above n (d .counters .pulse)) p)) ∙ no _ _ e
+quiet-parts boots limit d e p q s t u =
+    u
+    ∙ ap (λ (n : ℕ). eventsQuiet (oscon (d .counters)) n (inputsOf d))
+    (t ∙ ap (λ (n : ℕ). divided n d) (s ∙ ap (λ (n : ℕ). watched n d) (q ∙ ap (λ (n : ℕ). above n (d .counters .pulse)) p))) ∙ no _ _ e
 
 -- a number that the code got is quiet, where it is above 0, and no more than the limit
 pub quiet-got : (boots : Bool) (limit : ℕ) (d : Device) {k : ℕ} → alive d ≡ true → k ≡ quietTicks boots limit d → 0 < k → Quiet boots k d
@@ -67,20 +71,23 @@ lowered-fits t n k m h = pick-when (λ (x : ℕ). x < m) t (λ e. omega arith) (
 pub jump-made :
     (boots : Bool) (k : ℕ) (d : Device) → Quiet boots k d
     → d .cycle .left < 256 → d .counters .divider < 65536 → d .counters .watchdog < 4294967296 → d .counters .delay < 4294967296 → d .counters .pulse < 65536
-    → withCounters (withLeft d ((d .cycle .left - k) % 256))
+    → withEvents
+    (withCounters (withLeft d ((d .cycle .left - k) % 256))
     (record {
       divider = pick (clockRuns d) (d .counters .divider + k) (d .counters .divider) % 65536;
       startup = d .counters .startup;
       watchdog = pick (watchdogRuns d && eqb (d .counters .delay) 0) (d .counters .watchdog + k) (d .counters .watchdog) % 4294967296;
       delay = pick (watchdogRuns d) (d .counters .delay - k) (d .counters .delay) % 4294967296;
       pulse = (d .counters .pulse - k) % 65536;
-    })
+    }))
+    (eventsJumped (oscon (d .counters)) k (inputsOf d) .events)
     ≡ jumped k d
 unfolding jumped
 jump-made boots k d q l s w y p =
-    both-same d (omega arith)
+    all-same d (omega arith)
     (counters-same (omega (arith, divider-fits boots k d q s)) refl (omega (arith, watchdog-fits boots k d q w))
     (omega (arith, lowered-fits (watchdogRuns d) (d .counters .delay) k 4294967296 y)) (omega arith))
+    refl
 
 -- a jump leaves the chip alive
 pub jumped-alive : (k : ℕ) (d : Device) → alive (jumped k d) ≡ alive d

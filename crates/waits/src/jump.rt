@@ -1,11 +1,14 @@
 // Ticks in which only counts move, taken at once.
+use events::Events;
 use record::Cycle;
 use record::Device;
 use record::registers::WATCHDOG;
 ghost use mathlib.Core.Path.{_≡_};
 ghost use Prim.Native.Nat.{_+_, _-_, _<_, min};
 ghost use Rattle.base.specs.Words.{pick};
-ghost use Rattle.record.specs.Registers.{dividerTicks};
+ghost use Rattle.events.specs.Jump.{eventsJumped};
+ghost use Rattle.record.specs.Registers.{oscon, dividerTicks};
+ghost use Rattle.record.specs.Setters.{inputsOf};
 ghost use Rattle.waits.specs.Jump.{watchdogRuns, clockRuns, jumped, above, watched, gap, divided, Quiet, quietTicks};
 
 // The ticks of a second.
@@ -102,7 +105,10 @@ pub fn quiet_ticks(boots: bool, limit: u64, d: Device) -> u64
     let a = stays_above(limit, y.left as u64);
     let b = stays_above(a, c.pulse as u64);
     let w = watchdog_quiet(b, d);
-    divider_quiet(w, d)
+    let v = divider_quiet(w, d);
+    let counted = record::registers::is_oscon(c);
+    let inputs = record::inputs::inputs_of(d);
+    events::jump::events_quiet(counted, v, inputs)
 }
 
 fn grown(go: bool, n: u64, k: u64) -> u64
@@ -116,6 +122,16 @@ fn lowered(go: bool, n: u64, k: u64) -> u64
     ensures { λ r. ⌜ r ≡ pick go (n - k) n ⌝ }
 {
     if go { fallen(n, k) } else { n }
+}
+
+// The event inputs after k such ticks.
+fn events_jumped(k: u64, d: Device) -> Events
+    ensures { λ r. ⌜ r ≡ eventsJumped (oscon (d .counters)) k (inputsOf d) .events ⌝ }
+{
+    let counted = record::registers::is_oscon(d.counters);
+    let before = record::inputs::inputs_of(d);
+    let after = events::jump::events_jump(counted, k, before);
+    after.events
 }
 
 // The device after k such ticks.
@@ -139,8 +155,10 @@ pub fn jump(boots: bool, k: u64, d: Device) -> Device
     counters.delay = delay;
     counters.pulse = pulse;
     let cycle = Cycle { target, left };
+    let events = events_jumped(k, d);
     let mut next = d;
     next.counters = counters;
     next.cycle = cycle;
+    next.events = events;
     next
 }

@@ -1,4 +1,4 @@
-// A wait of the record: ticks up to the first that changes IRQ, WDO or WIP, or n.
+// A wait of the record: ticks up to the first that changes IRQ, WDO, an event's flag or WIP, or n.
 use crate::jump::jump;
 use crate::jump::quiet_ticks;
 use record::Device;

@@ -1,8 +1,9 @@
 //! Random chips in range: some that a tape has brought about, most from anywhere in the range, with
 //! numbers at their limits.
 
-use super::{bits_tape, latch_tape, power_tape, tape, Random};
+use super::{bits_tape, events_tape, latch_tape, power_tape, tape, Random};
 use crate::chip::*;
+use crate::events::{debounce_ticks, number_of_edges, EVEN0, EVEN1, EVENTS, WINDOW};
 use crate::saved;
 use crate::tape::Tape;
 
@@ -20,7 +21,7 @@ pub fn text_of(chip: &Chip) -> Vec<u8> {
 
 /// The chip in the middle of a random tape, if its part has come.
 fn after_a_tape(random: &mut Random) -> Option<Chip> {
-    let made = random.pick(&[tape, power_tape, latch_tape, bits_tape]);
+    let made = random.pick(&[tape, power_tape, latch_tape, bits_tape, events_tape]);
     let (seed, lines) = (random.next(), 1 + random.below(150));
     let mut state = Tape::new();
     state.feed(&made(seed, lines), &mut Vec::new());
@@ -87,7 +88,26 @@ fn any_chip(random: &mut Random) -> Chip {
     if d.power && !deaf && !random.once_in(3) {
         d.countdown = up_to(random, WRITE_CYCLE);
     }
+    inputs(random, d);
     chip
+}
+
+/// Levels, and the counts that 0Bh allows beside them. Its flags are often clear, so that the counts
+/// can move.
+fn inputs(random: &mut Random, d: &mut Device) {
+    d.registers[EVENTS] &= random.pick(&[0xFF, 0x7F, 0xBF, 0x3F, 0x37]);
+    let byte = d.registers[EVENTS];
+    d.evls = random.below(2);
+    d.evhs = random.below(2);
+    if byte & EVEN1 != 0 {
+        d.edges = up_to(random, number_of_edges(byte) - 1);
+    }
+    if d.edges > 0 {
+        d.since = up_to(random, WINDOW);
+    }
+    if byte & EVEN0 != 0 && d.evls == 1 {
+        d.debounce = up_to(random, debounce_ticks(byte));
+    }
 }
 
 fn protection(random: &mut Random) -> Protection {

@@ -14,6 +14,8 @@ pub enum Way {
     EmptyLine,
     EndsBefore,
     EndsInside,
+    /// Ends before the event inputs' lines, and is good.
+    Older,
     NoNewline,
     NoLastNewline,
     AfterTheEnd,
@@ -73,7 +75,7 @@ pub enum Way {
 }
 
 impl Way {
-    pub const ALL: [Way; 58] = [
+    pub const ALL: [Way; 59] = [
         Way::Missing,
         Way::Doubled,
         Way::Swapped,
@@ -81,6 +83,7 @@ impl Way {
         Way::EmptyLine,
         Way::EndsBefore,
         Way::EndsInside,
+        Way::Older,
         Way::NoNewline,
         Way::NoLastNewline,
         Way::AfterTheEnd,
@@ -135,8 +138,8 @@ impl Way {
     ];
 }
 
-/// The text with this index of a seed's: a chip of its own, every 59th whole, the others spoiled,
-/// way by way and line by line. 59 times 91 of them have every way at every line.
+/// The text with this index of a seed's: a chip of its own, every 60th whole, the others spoiled,
+/// way by way and line by line. 60 times 96 of them have every way at every line.
 pub fn saved_text(seed: u64, index: u64) -> Vec<u8> {
     let mut random = Random::new(seed ^ index.wrapping_mul(0xA24B_AED4_963E_E407));
     let text = text_of(&chip(&mut random));
@@ -171,6 +174,9 @@ impl Line {
     }
 }
 
+/// The lines behind the ID's.
+const EVENT_LINES: usize = 5;
+
 /// `text` is good, and `line` is one of its lines, from 0.
 pub fn spoil(random: &mut Random, text: &[u8], line: usize, way: Way) -> Vec<u8> {
     let mut lines: Vec<Vec<u8>> =
@@ -194,6 +200,7 @@ pub fn spoil(random: &mut Random, text: &[u8], line: usize, way: Way) -> Vec<u8>
             let length = lines[line].len() as u64;
             lines[line].truncate(random.below(length) as usize);
         }
+        Way::Older => lines.truncate(lines.len() - EVENT_LINES),
         Way::NoNewline => drop(lines[line].pop()),
         Way::NoLastNewline => drop(lines.last_mut().map(Vec::pop)),
         Way::AfterTheEnd => {
@@ -235,9 +242,9 @@ pub fn spoil(random: &mut Random, text: &[u8], line: usize, way: Way) -> Vec<u8>
 }
 
 /// Numbers that are one past some limit of the form, the smallest first.
-const EDGES: [u64; 26] = [
-    0, 1, 2, 3, 4, 5, 6, 7, 8, 16, 32, 33, 64, 128, 165, 256, 512, 2_048, 4_096, 4_097, 32_768,
-    524_288, 1_048_576, 2_097_152, 2_097_153, 16_777_216,
+const EDGES: [u64; 29] = [
+    0, 1, 2, 3, 4, 5, 6, 7, 8, 16, 32, 33, 64, 128, 165, 256, 512, 1_025, 2_048, 4_096, 4_097,
+    8_193, 16_385, 32_768, 524_288, 1_048_576, 2_097_152, 2_097_153, 16_777_216,
 ];
 
 /// Puts the smallest of these that the line cannot have for one of its numbers.

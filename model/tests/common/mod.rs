@@ -70,6 +70,15 @@ impl Rig {
         self.done(Act::Up, 0);
     }
 
+    /// Sets the level of EVLS; a pin act answers nothing.
+    pub fn evls(&mut self, level: u64) {
+        assert_eq!(self.done(Act::Evls, level), Answer { number: 0, reply: None, count: 0 });
+    }
+
+    pub fn evhs(&mut self, level: u64) {
+        assert_eq!(self.done(Act::Evhs, level), Answer { number: 0, reply: None, count: 0 });
+    }
+
     /// A frame with leftover bits; gives the reply to each byte.
     pub fn frame_with(&mut self, bytes: &[u8], leftover: u64) -> Vec<Option<u8>> {
         self.select();

@@ -1,6 +1,6 @@
 -- Each accepted act: what the table let through is what its part of the code asks, and the answer is that part's.
 -- Assumes nothing.
-use Rattle.acts.proofs.AcceptedLaws.{accepted-byte, accepted-end, accepted-cut, few-bits, suits}
+use Rattle.acts.proofs.AcceptedLaws.{accepted-byte, accepted-end, accepted-cut, accepted-set, few-bits, suits}
 use native.Mathlib.Omega.{arith}
 use borrow.Author.Needs.{needs}
 use Rattle.acts.proofs.accepted_act.Statement.{statement}
@@ -62,6 +62,13 @@ returns-5 c =
 returns-6 : tie.Need-returns-6
 returns-6 c = simp (c .before .before .enum-told6 .given .1, c .silent2 .ensures, c .before .after-up .ensures)
 
+returns-7 : tie.Need-returns-7
+returns-7 c =
+    let m = c .before .before .before in
+    let e = m .act .given .1 in
+    let n = accepted-set _ _ _ _ _ _ (rw e at (m .before .before .before .before .before .before .pre)) in
+    simp (e, c .silent3 .ensures, c .before .after-set .ensures, n)
+
 pub accepted-act-spec : {M : Type 1} → statement M
 accepted-act-spec =
     tie.close
@@ -87,6 +94,9 @@ accepted-act-spec =
     (λ c. search needs)
     (λ c κs. search needs)
     (λ c κs. search needs)
+    (λ c. search needs)
+    (λ c κs. search needs)
+    (λ c κs. search needs)
     returns
     (λ c. search needs)
     (λ c. search needs)
@@ -100,4 +110,5 @@ accepted-act-spec =
     (λ c. search needs)
     (λ c. search needs)
     returns-5
-    returns-6)
+    returns-6
+    returns-7)

@@ -12,8 +12,8 @@ returns c = state-short (c .before .before .args .state .now) (c .if1 .taken)
 
 returns-2 : tie.Need-returns-2
 returns-2 c =
-    (λ i. not (c .before .clock-bad .ensures i || c .frame-bad .ensures i))
-    ∙ state-told (c .before .before .before .before .args .state .now) (c .before .before .if1 .left) (λ k. c .before .before .before .shared-slice-known .given k .fits)
+    (λ i. not (c .before .before .clock-bad .ensures i || c .before .frame-bad .ensures i || c .events-bad .ensures i))
+    ∙ state-told (c .before .before .before .before .before .args .state .now) (c .before .before .before .if1 .left) (λ k. c .before .before .before .before .shared-slice-known .given k .fits)
 
 pub is-state-spec : {M : Type 1} → statement M
-is-state-spec = tie.close (tie.spec returns (λ c κs. search needs) (λ c κs. search needs) returns-2)
+is-state-spec = tie.close (tie.spec returns (λ c κs. search needs) (λ c κs. search needs) (λ c κs. search needs) returns-2)

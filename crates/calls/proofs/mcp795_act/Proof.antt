@@ -38,7 +38,7 @@ put-state-requires c κs =
 returns-3 : tie.Need-returns-3
 returns-3 c =
     let a = c .before .before .before .before .before .before .before .before .before .before .before .before .before .before .before .before .before .before .before .before .before .before .before .before .before .before .before .args in
-    act-done (arrays (a .state .now) (a .eeprom .now) (a .id .now)) _ (c .before .before .before .before .before .before .before .before .before .before .before .before .before .before .before .before .before .before .before .before .before .before .state-refusal .ensures) (a .act) (a .number) (c .before .before .before .before .before .before .before .before .before .before .before .before .before .before .before .before .before .before .before .before .before .if1 .left) _ _ _ _ _ _ _ _ (c .before .before .before .before .before .before .before .before .before .before .before .before .before .before .before .before .before .before .before .part-of .ensures) (omega arith) (c .before .before .before .before .before .before .before .before .before .before .before .before .before .before .before .act-of .ensures) (c .before .before .before .before .before .before .before .before .before .before .before .before .before .before .before .before .before .device-in .ensures) (c .before .before .before .before .before .before .before .before .before .before .before .before .perform-in-range .ensures) (c .before .before .before .before .before .put-state .ensures) (c .before .put-answer2 .ensures)
+    act-done (arrays (a .state .now) (a .eeprom .now) (a .id .now)) _ (c .before .before .before .before .before .before .before .before .before .before .before .before .before .before .before .before .before .before .before .before .before .before .state-refusal .ensures) (a .act) (a .number) (c .before .before .before .before .before .before .before .before .before .before .before .before .before .before .before .before .before .before .before .before .before .if1 .left) _ _ _ _ _ _ _ _ (c .before .before .before .before .before .before .before .before .before .before .before .before .before .before .before .before .before .before .before .part-of .ensures) (c .before .before .before .before .before .before .before .before .before .before .before .before .before .before .before .before .if2 .left) (c .before .before .before .before .before .before .before .before .before .before .before .before .before .before .before .act-of .ensures) (c .before .before .before .before .before .before .before .before .before .before .before .before .before .before .before .before .before .device-in .ensures) (c .before .before .before .before .before .before .before .before .before .before .before .before .perform-in-range .ensures) (c .before .before .before .before .before .put-state .ensures) (c .before .put-answer2 .ensures)
 
 pub mcp795-act-spec : {M : Type 1} → statement M
 mcp795-act-spec =

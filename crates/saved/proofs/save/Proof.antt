@@ -67,7 +67,7 @@ put-rows-requires c κs =
     let g = sound-numbers (a .part) w (held-sound (a .part) (a .device) ee id z s be bi (n .ensures .1)) in
     let all = numbersOf (a .part) w in
     let l = c .before .first .ensures ∙ put-first _ _ all _ (begin k) (n .ensures .0) in
-    (subst IsChip (sym l) g, subst (λ (x : List ℕ). length (formText x) ≤ 7900) (sym l) (text-long all g))
+    (subst IsChip (sym l) g, subst (λ (x : List ℕ). length (formText x) ≤ 8000) (sym l) (text-long all g))
 
 returns-2 : tie.Need-returns-2
 returns-2 c =

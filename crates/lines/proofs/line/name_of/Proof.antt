@@ -9,12 +9,15 @@ use Rattle.lines.proofs.line.name_of.Tie as tie
 returns : tie.Need-returns
 unfolding nameOf chosen
 returns c =
-    let w5 = c .before .before .before .before in
+    let w7 = c .before .before .before .before in
+    let w5 = w7 .before .before .before .before in
     let w3 = w5 .before .before .before .before in
     let w1 = w3 .before .before .before .before in
     simp (
-      c .choose7 .ensures,
-      c .before .before .choose6 .ensures,
+      c .choose9 .ensures,
+      c .before .before .choose8 .ensures,
+      w7 .choose7 .ensures,
+      w7 .before .before .choose6 .ensures,
       w5 .choose5 .ensures,
       w5 .before .before .choose4 .ensures,
       w3 .choose3 .ensures,
@@ -29,4 +32,4 @@ name-of-spec =
     (tie.spec
     (λ c. search needs) (λ c κs. search needs) (λ c. search needs) (λ c κs. search needs) (λ c. search needs) (λ c κs. search needs)
     (λ c. search needs) (λ c κs. search needs) (λ c. search needs) (λ c κs. search needs) (λ c. search needs) (λ c κs. search needs)
-    (λ c. search needs) (λ c κs. search needs) returns)
+    (λ c. search needs) (λ c κs. search needs) (λ c. search needs) (λ c κs. search needs) (λ c. search needs) (λ c κs. search needs) returns)

@@ -8,7 +8,7 @@ use lib.ListN.{length}
 use Rattle.text.specs.Buffer.{buffer, append}
 use Rattle.text.proofs.BufferLaws.{put-then, room-then, room-before}
 use native.Mathlib.Nat.{zero-add}
-use Rattle.form.specs.Chip.{recordNumbers}
+use Rattle.form.specs.Chip.{recordNumbers, eventNumbers}
 use Rattle.numbers.proofs.ChipLaws.{numbers-joined}
 use Rattle.numbers.proofs.chip.numbers_of.Statement.{statement}
 use Rattle.numbers.proofs.chip.numbers_of.Tie as tie
@@ -18,42 +18,39 @@ room {n} {s} {t} e h = subst (λ (k : ℕ). k ≤ n) (ap length e ∙ sym (zero-
 
 put-number-requires : tie.Need-put-number-requires
 put-number-requires c κs =
-    let a = c .before .before .before .before .args in
+    let a = c .before .before .before .before .before .args in
     let p : List ℕ = a .part ∷ [] in
     let r = recordNumbers (a .d) in
-    let m = a .eeprom .now ++ a .id .now in
-    room-before 0 p r
-    (room-before 0 (p ++ r) m (room (sym (numbers-joined (a .part) (a .d) (a .eeprom .now) (a .id .now))) (c .before .before .before .before .pre)))
+    let m = (a .eeprom .now ++ a .id .now) ++ eventNumbers (a .d .events) in
+    room-before 0 p r (room-before 0 (p ++ r) m (room (sym (numbers-joined (a .part) (a .d) (a .eeprom .now) (a .id .now))) (c .before .before .before .before .before .pre)))
 
 put-record-requires : tie.Need-put-record-requires
 put-record-requires c κs =
-    let a = c .before .before .before .before .before .before .before .before .args in
+    let a = c .before .before .before .before .before .before .before .before .before .args in
     let o = buffer (a .into .now) 0 in
     let p : List ℕ = a .part ∷ [] in
     let r = recordNumbers (a .d) in
-    let m = a .eeprom .now ++ a .id .now in
-    room-then o p r (c .before .before .before .put-number .ensures)
-    (room-before 0 (p ++ r) m (room (sym (numbers-joined (a .part) (a .d) (a .eeprom .now) (a .id .now))) (c .before .before .before .before .before .before .before .before .pre)))
+    let m = (a .eeprom .now ++ a .id .now) ++ eventNumbers (a .d .events) in
+    room-then o p r (c .before .before .before .put-number .ensures) (room-before 0 (p ++ r) m (room (sym (numbers-joined (a .part) (a .d) (a .eeprom .now) (a .id .now))) (c .before .before .before .before .before .before .before .before .before .pre)))
 
-put-memories-requires : tie.Need-put-memories-requires
-put-memories-requires c κs =
-    let a = c .before .before .before .before .before .before .before .before .before .before .before .before .args in
+put-rest-requires : tie.Need-put-rest-requires
+put-rest-requires c κs =
+    let a = c .before .before .before .before .before .before .before .before .before .before .before .before .before .args in
     let o = buffer (a .into .now) 0 in
     let p : List ℕ = a .part ∷ [] in
     let r = recordNumbers (a .d) in
-    let m = a .eeprom .now ++ a .id .now in
-    room-then o (p ++ r) m
-    (put-then o p r (c .before .before .before .before .before .before .before .put-number .ensures) (c .before .before .before .put-record .ensures .0))
-    (room (sym (numbers-joined (a .part) (a .d) (a .eeprom .now) (a .id .now))) (c .before .before .before .before .before .before .before .before .before .before .before .before .pre))
+    let m = (a .eeprom .now ++ a .id .now) ++ eventNumbers (a .d .events) in
+    room-then o (p ++ r) m (put-then o p r (c .before .before .before .before .before .before .before .put-number .ensures) (c .before .before .before .put-record .ensures .0))
+    (room (sym (numbers-joined (a .part) (a .d) (a .eeprom .now) (a .id .now))) (c .before .before .before .before .before .before .before .before .before .before .before .before .before .pre))
 
 returns : tie.Need-returns
 returns c =
-    let a = c .before .before .before .before .before .before .before .before .before .before .before .before .before .before .before .args in
+    let a = c .before .before .before .before .before .before .before .before .before .before .before .before .before .before .before .before .args in
     let o = buffer (a .into .now) 0 in
     let p : List ℕ = a .part ∷ [] in
     let r = recordNumbers (a .d) in
-    let m = a .eeprom .now ++ a .id .now in
-    (put-then o (p ++ r) m (put-then o p r (c .before .before .before .before .before .before .before .before .before .before .put-number .ensures) (c .before .before .before .before .before .before .put-record .ensures .0)) (c .before .before .put-memories .ensures) ∙ ap (append o) (numbers-joined (a .part) (a .d) (a .eeprom .now) (a .id .now)), c .before .before .before .before .before .before .put-record .ensures .1)
+    let m = (a .eeprom .now ++ a .id .now) ++ eventNumbers (a .d .events) in
+    (put-then o (p ++ r) m (put-then o p r (c .before .before .before .before .before .before .before .before .before .before .put-number .ensures) (c .before .before .before .before .before .before .put-record .ensures .0)) (c .before .before .put-rest .ensures) ∙ ap (append o) (numbers-joined (a .part) (a .d) (a .eeprom .now) (a .id .now)), c .before .before .before .before .before .before .put-record .ensures .1)
 
 pub numbers-of-spec : {M : Type 1} → statement M
-numbers-of-spec = tie.close (tie.spec put-number-requires put-record-requires put-memories-requires (λ c. search needs) returns)
+numbers-of-spec = tie.close (tie.spec put-number-requires put-record-requires put-rest-requires (λ c. search needs) returns)

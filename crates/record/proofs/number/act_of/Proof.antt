@@ -20,14 +20,22 @@ returns-5 : tie.Need-returns-5
 returns-5 c = simp (c .match .keys5)
 
 returns-6 : tie.Need-returns-6
-returns-6 c =
+returns-6 c = simp (c .match .keys6)
+
+returns-7 : tie.Need-returns-7
+returns-7 c = simp (c .match .keys7)
+
+returns-8 : tie.Need-returns-8
+returns-8 c =
     simp (
-      ne-eqb _ 0 (c .match .rest .0 .0 .0 .0 .1),
-      ne-eqb _ 1 (c .match .rest .0 .0 .0 .1),
-      ne-eqb _ 2 (c .match .rest .0 .0 .1),
-      ne-eqb _ 3 (c .match .rest .0 .1),
-      ne-eqb _ 4 (c .match .rest .1),
+      ne-eqb _ 0 (c .match .rest .0 .0 .0 .0 .0 .0 .1),
+      ne-eqb _ 1 (c .match .rest .0 .0 .0 .0 .0 .1),
+      ne-eqb _ 2 (c .match .rest .0 .0 .0 .0 .1),
+      ne-eqb _ 3 (c .match .rest .0 .0 .0 .1),
+      ne-eqb _ 4 (c .match .rest .0 .0 .1),
+      ne-eqb _ 5 (c .match .rest .0 .1),
+      ne-eqb _ 6 (c .match .rest .1),
     )
 
 pub act-of-spec : {M : Type 1} → statement M
-act-of-spec = tie.close (tie.spec returns returns-2 returns-3 returns-4 returns-5 returns-6)
+act-of-spec = tie.close (tie.spec returns returns-2 returns-3 returns-4 returns-5 returns-6 returns-7 returns-8)

@@ -24,7 +24,11 @@ returns-4 c = simp (c .delay-after .ensures, eq-eqb _ _ (c .before .before .befo
 
 returns-5 : tie.Need-returns-5
 unfolding afterWrite
-returns-5 c = simp (ne-eqb _ _ (c .if4 .left), ne-eqb _ _ (c .before .if3 .left), ne-eqb _ _ (c .before .before .if1 .left))
+returns-5 c = simp (c .no-counts .ensures, eq-eqb _ _ (c .before .before .if5 .taken), ne-eqb _ _ (c .before .before .before .if4 .left), ne-eqb _ _ (c .before .before .before .before .if3 .left), ne-eqb _ _ (c .before .before .before .before .before .if1 .left))
+
+returns-6 : tie.Need-returns-6
+unfolding afterWrite
+returns-6 c = simp (ne-eqb _ _ (c .if5 .left), ne-eqb _ _ (c .before .if4 .left), ne-eqb _ _ (c .before .before .if3 .left), ne-eqb _ _ (c .before .before .before .if1 .left))
 
 pub after-write-spec : {M : Type 1} → statement M
 unfolding afterWrite
@@ -32,4 +36,4 @@ after-write-spec =
     tie.close
     (tie.spec
     (λ c. search needs) (λ c. search needs) returns returns-2 (λ c κs. search needs) returns-3 (λ c. search needs) (λ c κs. search needs) returns-4
-    returns-5)
+    (λ c κs. search needs) returns-5 returns-6)

@@ -17,17 +17,17 @@ use Rattle.saved.proofs.put.put_rows.Tie as tie
 
 abbrev Inv-loop : tie.InvT-loop
 Inv-loop numbers into₀ part end₀ place₀ row₀ into end place row =
-    (row ≤ 21) × (length into ≡ length into₀) × (row ≤ place) × Left (buffer into₀ 0) numbers row place (buffer into end)
+    (row ≤ 26) × (length into ≡ length into₀) × (row ≤ place) × Left (buffer into₀ 0) numbers row place (buffer into end)
 
 abbrev μ-loop : tie.MeasureT-loop
-μ-loop numbers into₀ part end₀ place₀ row₀ into end place row = 21 - row
+μ-loop numbers into₀ part end₀ place₀ row₀ into end place row = 26 - row
 
 shared-slice-read-part : tie.Need-shared-slice-read-part Inv-loop μ-loop
 shared-slice-read-part c =
     let a = c .before .before .before .args in
     let h = c .before .before .before .pre in
     let ns = a .numbers .now in
-    let z = good-facts ns (h .0) .first .reach in
+    let z = good-facts ns (h .0) .chip .first .reach in
     omega (arith, z)
 
 loop-holds : tie.Need-loop-holds Inv-loop μ-loop

@@ -15,7 +15,7 @@ use Rattle.saved.proofs.read.read_numbers.Tie as tie
 
 abbrev Inv-loop : tie.InvT-loop
 Inv-loop text row first width numbers₀ count place₀ good₀ j₀ numbers place good j =
-    (j ≤ width) × (length numbers ≡ 395) × Went (rowAt row) (take count numbers₀) first width (readingAt text place₀) j (readingAt text place) good numbers
+    (j ≤ width) × (length numbers ≡ 400) × Went (rowAt row) (take count numbers₀) first width (readingAt text place₀) j (readingAt text place) good numbers
 
 abbrev μ-loop : tie.MeasureT-loop
 μ-loop text row first width numbers₀ count place₀ good₀ j₀ numbers place good j = width - j

@@ -12,7 +12,7 @@ use Rattle.saved.proofs.LoopLaws.{Rows, rows-none, rows-step, rows-all,
 use Rattle.saved.proofs.read.read_row.Statement.{statement}
 use Rattle.saved.proofs.read.read_row.Tie as tie
 
-less : {m : ℕ} (s : ℕ) → m + s ≤ 395 → m ≤ 395
+less : {m : ℕ} (s : ℕ) → m + s ≤ 400 → m ≤ 400
 less s p = omega (arith, p)
 
 few : {n m k : ℕ} → n < m → m ≡ k → k ≤ 32 → n < 32
@@ -20,7 +20,7 @@ few p q t = omega (arith, p, q, t)
 
 abbrev Inv-loop : tie.InvT-loop
 Inv-loop text row numbers₀ count width lines place₀ at₀ i₀ numbers place at i =
-    (i ≤ lines) × (length numbers ≡ 395) × Rows (rowAt row) lines (got (take count numbers₀) (readingAt text place₀)) i at numbers (readingAt text place)
+    (i ≤ lines) × (length numbers ≡ 400) × Rows (rowAt row) lines (got (take count numbers₀) (readingAt text place₀)) i at numbers (readingAt text place)
 
 abbrev μ-loop : tie.MeasureT-loop
 μ-loop text row numbers₀ count width lines place₀ at₀ i₀ numbers place at i = lines - i
@@ -58,10 +58,10 @@ read-line-requires c κs =
     let w = c .before .before .before .before .before .width .ensures in
     let f = l .inv .2 in
     let m = line-fits (a .row) _ (a .numbers .now) (a .count) (l .i) (l .at) o n (h .1 .0) t (f .counted) in
-    (h .0, (w, (subst (λ (z : ℕ). l .at + z ≤ 395) (sym w) m, (few t n (lines-most (take (a .count) (a .numbers .now)) (a .row) (h .0)), (f .fewer, f .list)))))
+    (h .0, (w, (subst (λ (z : ℕ). l .at + z ≤ 400) (sym w) m, (few t n (lines-most (take (a .count) (a .numbers .now)) (a .row) (h .0)), (f .fewer, f .list)))))
 
 -- after a line has been read: its numbers are in the array
-read-fits : (c : tie.After-slice-known3 Inv-loop μ-loop) → c .before .before .before .before .before .loop .at + rowAt (c .before .before .before .before .before .before .before .before .before .before .before .args .row) .width ≤ 395
+read-fits : (c : tie.After-slice-known3 Inv-loop μ-loop) → c .before .before .before .before .before .loop .at + rowAt (c .before .before .before .before .before .before .before .before .before .before .before .args .row) .width ≤ 400
 read-fits c =
     let a = c .before .before .before .before .before .before .before .before .before .before .before .args in
     let h = c .before .before .before .before .before .before .before .before .before .before .before .pre in

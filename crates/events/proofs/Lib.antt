@@ -1,0 +1,9 @@
+pub mod EdgeLaws
+pub mod ControlLaws
+pub mod RangeLaws
+pub mod JumpLaws
+pub mod MoveLaws
+pub mod StoryLaws
+pub mod BeginLaws
+pub mod Examples
+pub mod EmbedLaws

@@ -1,0 +1,9 @@
+pub mod Control
+pub mod Pins
+pub mod Tick
+pub mod Range
+pub mod Rows
+pub mod Jump
+pub mod Story
+pub mod Beginning
+pub mod Claims

@@ -1,0 +1,4 @@
+pub mod Moves
+pub mod Claim
+pub mod Before
+pub mod Shown
