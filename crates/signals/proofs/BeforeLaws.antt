@@ -2,7 +2,7 @@
 -- Assumes nothing.
 use Prim.Native.Nat.{ℕ, zero, suc, _-_}
 use mathlib.Core.Path.{_≡_, refl, sym, ap, subst, _∙_}
-use mathlib.Core.Bool.{Bool, false, not, _&&_, _||_, or-false}
+use mathlib.Core.Bool.{Bool, false, not, _&&_, _||_, or-false, true≢false}
 use mathlib.Core.Logic.{⊎-elim}
 use mathlib.Core.List.{List, [], _∷_}
 use borrow.Author.Tests.{eqb-true}
@@ -52,9 +52,14 @@ use Rattle.acts.specs.Act.{Outcome, outcome, refused, waitedOutcome, accepted, 
 use Rattle.acts.proofs.OutcomeLaws.{answered-by-table}
 use Rattle.acts.proofs.ValidLaws.{Valid, performed-valid, fresh-valid}
 use Rattle.run.specs.Claim.{Input}
+use Rattle.lines.specs.declared.Request.{Request}
+use Rattle.lines.specs.declared.Request.the-variants.{PartLine, ActLine, Bad}
+use Rattle.lines.specs.Request.{requestOf}
+use Rattle.lines.specs.Print.{answerLine}
+use Rattle.answers.specs.Answer.{Setup, setup, noPart, freshSetup, LineAnswer, outcomeAnswer, requestAnswer, levelHigh, answerText}
 use Rattle.signals.specs.Moves.{counted, tickMoves, byteMoves, doneMoves, movesOf}
 use Rattle.signals.specs.Claim.{toEvent}
-use Rattle.signals.specs.Before.{clockworkBefore, tickBefore, irqBefore, changedBefore, stopsBefore, waitedBefore, afterWriteBefore, writeBefore, placeBy, storedBy, byteBefore, forgottenBefore, cutBefore, outBefore, refusalBefore, acceptedBefore, performedBefore, today, before, seenOf, seenBy, leftBy, Quiet, NoPins, NoFlags, AsBefore}
+use Rattle.signals.specs.Before.{clockworkBefore, tickBefore, irqBefore, changedBefore, stopsBefore, waitedBefore, afterWriteBefore, writeBefore, placeBy, storedBy, byteBefore, forgottenBefore, cutBefore, outBefore, refusalBefore, acceptedBefore, performedBefore, today, before, seenOf, seenBy, leftBy, Quiet, NoPin, NoPins, NoFlag, NoFlags, answerBy, textBy, printedBy, PlainRequest, PlainLines, AsBefore}
 use Rattle.signals.proofs.InputLaws.{cycle-inputs, watched, watched-inputs}
 use Rattle.signals.proofs.MoveLaws.{tick-moved, act-moves, moves-done, moves-refused}
 use Rattle.signals.proofs.StretchLaws.{none-runs}
@@ -272,6 +277,16 @@ module _ (part arg : ℕ) (w : World) (s : Inputs) (q : Quiet s) where
       (quiet-made act (accepted part arg w act .count) n (λ b. f b (answered-by-table part act arg w ∙ e))))
       (λ t. subst (λ (x : List Move). Quiet (after s x)) (sym (moves-refused part act arg w t)) q)
 
+-- One act: answered as before, and as quiet after it.
+step-before :
+    (part : ℕ) (act : Act) (arg : ℕ) (w : World) → Valid part w → Quiet (inputsOf (w .device)) → NoPin act → NoFlag part act arg w
+    → (performed part act arg w ≡ performedBefore part act arg w) × Quiet (inputsOf (performed part act arg w .after .device))
+step-before part act arg w v q n f =
+    let e : performed part act arg w ≡ performedBefore part act arg w = performed-before part act arg w v q n in
+    let b : act ≡ Byte → performed part act arg w .number ≡ 0 → w .device .frame .stage ≡ toEvent → (bit arg 7 ≡ false) × (bit arg 6 ≡ false) =
+    λ a z. f a (sym (ap (λ (y : Outcome). y .number) e) ∙ z) in
+    (e, subst Quiet (sym (act-moves part act arg w v)) (quiet-moves part arg w (inputsOf (w .device)) q act n b))
+
 -- A run.
 run-before :
     (part : ℕ) (xs : List Input) (w : World) → Valid part w → Quiet (inputsOf (w .device)) → NoPins xs → NoFlags part xs w
@@ -281,22 +296,65 @@ run-before part [] w v q n f = (refl, refl)
 run-before part (x ∷ xs) w v q n f =
     let act : Act = x .act in
     let arg : ℕ = x .arg in
-    let e : performed part act arg w ≡ performedBefore part act arg w = performed-before part act arg w v q (n .0) in
+    let one = step-before part act arg w v q (n .0) (f .0) in
     let o : Outcome = performed part act arg w in
-    let b : act ≡ Byte → o .number ≡ 0 → w .device .frame .stage ≡ toEvent → (bit arg 7 ≡ false) × (bit arg 6 ≡ false) =
-    λ a z. f .0 a (sym (ap (λ (y : Outcome). y .number) e) ∙ z) in
-    let k : Quiet (inputsOf (o .after .device)) =
-    subst Quiet (sym (act-moves part act arg w v)) (quiet-moves part arg w (inputsOf (w .device)) q act (n .0) b) in
-    let g : NoFlags part xs (o .after) = subst (λ (y : Outcome). NoFlags part xs (y .after)) (sym e) (f .1) in
-    let r = run-before part xs (o .after) (performed-valid part act arg w v) k (n .1) g in (
-      (λ i. record { number = o .number; reply = o .reply; count = o .count; irq = irq-before (o .after .device) k i; wdo = wdoLow (o .after .device) } ∷ r .0 i)
-          ∙ ap (λ (y : Outcome). seenOf before y ∷ seenBy before part xs (y .after)) e,
-      r .1 ∙ ap (λ (y : Outcome). leftBy before part xs (y .after)) e,
+    let g : NoFlags part xs (o .after) = subst (λ (y : Outcome). NoFlags part xs (y .after)) (sym (one .0)) (f .1) in
+    let r = run-before part xs (o .after) (performed-valid part act arg w v) (one .1) (n .1) g in (
+      (λ i. record { number = o .number; reply = o .reply; count = o .count; irq = irq-before (o .after .device) (one .1) i; wdo = wdoLow (o .after .device) } ∷ r .0 i)
+          ∙ ap (λ (y : Outcome). seenOf before y ∷ seenBy before part xs (y .after)) (one .0),
+      r .1 ∙ ap (λ (y : Outcome). leftBy before part xs (y .after)) (one .0),
     )
 
 fresh-quiet : Quiet (inputsOf fresh)
 unfolding fresh
 fresh-quiet = record { edges = refl; since = refl; debounce = refl; high = refl; low = refl }
+
+-- A tape: where there is a part, its chip is in range and quiet.
+record Ready (s : Setup) : Type 0 where
+  known : noPart s ≡ false → Valid (s .part) (s .chip) × Quiet (inputsOf (s .chip .device))
+
+fresh-ready : (part : ℕ) → Ready (freshSetup part)
+fresh-ready part = record { known = λ h. (fresh-valid part, fresh-quiet) }
+
+-- the levels that are printed
+text-before : (a : LineAnswer) → Ready (a .after) → textBy today a ≡ textBy before a
+text-before a r =
+    by-cases (noPart (a .after))
+    (λ t. rw t)
+    (λ f. ap (λ (b : Bool). answerLine (a .number) (a .out) (levelHigh (a .after .part) b) (levelHigh (a .after .part) (wdoLow (a .after .chip .device))))
+    (irq-before (a .after .chip .device) (r .known f .1)))
+
+line-before : (q : Request) (s : Setup) → Ready s → PlainRequest q s → (answerBy today q s ≡ answerBy before q s) × Ready (answerBy today q s .after)
+line-before (PartLine arg) s r p = (
+  refl,
+  pick-case (λ (a : LineAnswer). Ready (a .after)) (noPart s) (pick-case (λ (a : LineAnswer). Ready (a .after)) (isPart arg) (fresh-ready arg) r) r,
+)
+line-before (ActLine act arg) s r p =
+    by-cases (noPart s)
+    (λ t. rw t (refl, r))
+    (λ f.
+    let k = r .known f in
+    let one = step-before (s .part) act arg (s .chip) (k .0) (k .1) (p .0) (p .1) in
+    rw f
+    (ap (outcomeAnswer (s .part) act) (one .0), record { known = λ h. (performed-valid (s .part) act arg (s .chip) (k .0), one .1) }))
+line-before Bad s r p = (refl, r)
+
+lines-before : (lines : List (List ℕ)) (s : Setup) → Ready s → PlainLines lines s → printedBy today lines s ≡ printedBy before lines s
+unfolding printedBy PlainLines
+lines-before [] s r p = refl
+lines-before (line ∷ lines) s r p =
+    let q : Request = requestOf line in
+    let one = line-before q s r (p .0) in
+    let a : LineAnswer = answerBy today q s in
+    let g : PlainLines lines (a .after) = subst (λ (y : LineAnswer). PlainLines lines (y .after)) (sym (one .0)) (p .1) in
+    (λ i. text-before a (one .1) i ∷ lines-before lines (a .after) (one .1) g i)
+    ∙ ap (λ (y : LineAnswer). textBy before y ∷ printedBy before lines (y .after)) (one .0)
+
+printed-today : (q : Request) (s : Setup) → textBy today (answerBy today q s) ≡ answerText (requestAnswer q s)
+unfolding answerText
+printed-today (PartLine arg) s = refl
+printed-today (ActLine act arg) s = refl
+printed-today Bad s = refl
 
 -- V17. The promise.
 pub as-before : AsBefore
@@ -305,5 +363,7 @@ as-before =
       run = λ part xs w r z. run-before part xs w (record { range = r; shaped = z });
       fresh = λ part xs. run-before part xs (freshWorld part) (fresh-valid part) fresh-quiet;
       act = λ part act arg w r z. performed-before part act arg w (record { range = r; shaped = z });
+      tape = λ lines w. lines-before lines (setup 0 w) (record { known = λ h. absurd (true≢false h) });
+      prints = printed-today;
       lines = irq-before;
     }

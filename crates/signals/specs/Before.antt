@@ -41,6 +41,11 @@ use Rattle.frames.specs.Frame.{stageAfter, loadAfter}
 use Rattle.power.specs.Power.{watchdogCut, failureStamped, stoppedBy, cutCount, cutWorld}
 use Rattle.acts.specs.Act.{Outcome, outcome, refused, waitedOutcome, accepted, performed}
 use Rattle.run.specs.Claim.{Input}
+use Rattle.lines.specs.declared.Request.{Request}
+use Rattle.lines.specs.declared.Request.the-variants.{PartLine, ActLine, Bad}
+use Rattle.lines.specs.Request.{requestOf}
+use Rattle.lines.specs.Print.{answerLine}
+use Rattle.answers.specs.Answer.{Setup, setup, noPart, LineAnswer, refusedLine, partAnswer, outcomeAnswer, requestAnswer, levelHigh, answerText}
 use Rattle.signals.specs.Claim.{toEvent}
 
 -- a tick has no part of the event inputs
@@ -181,18 +186,52 @@ pub record Quiet (s : Inputs) : Type 0 where
   pub high : bit (s .control) 7 ≡ false
   pub low : bit (s .control) 6 ≡ false
 
--- no act of the list sets a pin
+-- an act that sets no pin, and a list of them
+abbrev pub NoPin : Act → Type 0
+NoPin act = (p : Pin) → act ≡ Set p → ⊥
+
 unfoldable pub NoPins : List Input → Type 0
 NoPins [] = Unit {0}
-NoPins (x ∷ xs) = ((p : Pin) → x .act ≡ Set p → ⊥) × NoPins xs
+NoPins (x ∷ xs) = NoPin (x .act) × NoPins xs
 
--- no byte of the run that writes 0Bh has bit 7 or 6 set; the run is that of the chip of before
+-- an act that is no byte to 0Bh with bit 7 or 6 set; whether it is done goes by the chip of before
+abbrev pub NoFlag : ℕ → Act → ℕ → World → Type 0
+NoFlag part act arg w =
+    act ≡ Byte → performedBefore part act arg w .number ≡ 0 → w .device .frame .stage ≡ toEvent
+    → (bit arg 7 ≡ false) × (bit arg 6 ≡ false)
+
+-- no act of the run is one; the run is that of the chip of before
 unfoldable pub NoFlags : ℕ → List Input → World → Type 0
 NoFlags part [] w = Unit {0}
-NoFlags part (x ∷ xs) w =
-    (x .act ≡ Byte → performedBefore part (x .act) (x .arg) w .number ≡ 0 → w .device .frame .stage ≡ toEvent
-    → (bit (x .arg) 7 ≡ false) × (bit (x .arg) 6 ≡ false))
-    × NoFlags part xs (performedBefore part (x .act) (x .arg) w .after)
+NoFlags part (x ∷ xs) w = NoFlag part (x .act) (x .arg) w × NoFlags part xs (performedBefore part (x .act) (x .arg) w .after)
+
+-- Of a tape. What a line asks for is answered by a make of the chip: today's answers (Answer), with the make's acts and its IRQ.
+abbrev pub answerBy : Make → Request → Setup → LineAnswer
+answerBy m (PartLine arg) s = partAnswer arg s
+answerBy m (ActLine act arg) s = pick (noPart s) (refusedLine 7 s) (outcomeAnswer (s .part) act (m .does (s .part) act arg (s .chip)))
+answerBy m Bad s = refusedLine 7 s
+
+abbrev pub textBy : Make → LineAnswer → List ℕ
+textBy m a =
+    let d : Device = a .after .chip .device in
+    answerLine (a .number) (a .out) (levelHigh (a .after .part) (m .irq d)) (levelHigh (a .after .part) (wdoLow d))
+
+-- the texts of the answers to lines
+unfoldable pub printedBy : Make → List (List ℕ) → Setup → List (List ℕ)
+printedBy m [] s = []
+printedBy m (line ∷ lines) s =
+    let a : LineAnswer = answerBy m (requestOf line) s in
+    textBy m a ∷ printedBy m lines (a .after)
+
+-- a line that names no pin, nor an act that writes a flag; and lines of that kind, on the chip of before
+abbrev pub PlainRequest : Request → Setup → Type 0
+PlainRequest (PartLine arg) s = Unit {0}
+PlainRequest (ActLine act arg) s = NoPin act × NoFlag (s .part) act arg (s .chip)
+PlainRequest Bad s = Unit {0}
+
+unfoldable pub PlainLines : List (List ℕ) → Setup → Type 0
+PlainLines [] s = Unit {0}
+PlainLines (line ∷ lines) s = PlainRequest (requestOf line) s × PlainLines lines (answerBy before (requestOf line) s .after)
 
 -- V17. The promise.
 pub record AsBefore : Type 0 where
@@ -208,6 +247,10 @@ pub record AsBefore : Type 0 where
   -- one act, a byte that writes a flag too: it is answered as before and leaves the same; the flag shows in the lines after it
   pub act :
       (part : ℕ) (act : Act) (arg : ℕ) (w : World) → InRange part (w .device) → Shaped part w → Quiet (inputsOf (w .device))
-      → ((p : Pin) → act ≡ Set p → ⊥) → performed part act arg w ≡ performedBefore part act arg w
+      → NoPin act → performed part act arg w ≡ performedBefore part act arg w
+  -- the lines of a tape, from its start: the same bytes are printed
+  pub tape : (lines : List (List ℕ)) (w : World) → PlainLines lines (setup 0 w) → printedBy today lines (setup 0 w) ≡ printedBy before lines (setup 0 w)
+  -- and on today's chip these bytes are the answers
+  pub prints : (r : Request) (s : Setup) → textBy today (answerBy today r s) ≡ answerText (requestAnswer r s)
   -- where it begins the lines are the same
   pub lines : (d : Device) → Quiet (inputsOf d) → irqLow d ≡ irqBefore d

@@ -7,8 +7,9 @@ use mathlib.Core.Logic.{_⊎_, inl, inr, ⊎-elim}
 use native.Mathlib.Omega.{arith}
 use borrow.Author.Tests.{ltb-true, lt-ltb, le-ltb, eqb-true, eqb-false, eq-eqb, ne-eqb}
 use lib.Dec.{ltb, eqb}
-use mathlib.Core.List.{List, [], _∷_}
+use mathlib.Core.List.{List}
 use lib.ListN.{getD, set}
+use lib.Seq.{set-getD}
 use Rattle.base.specs.Words.{pick}
 use Rattle.base.specs.Wait.{plus}
 use Rattle.base.proofs.Tests.{by-cases, pick-case, true-false}
@@ -80,12 +81,6 @@ watchdog-one d h =
     rw (n, z, o)))
     (λ n. rw n)
 
--- what is in its place already
-set-there : (l : List ℕ) (k : ℕ) → set l k (getD l k 0) ≡ l
-set-there [] k = refl
-set-there (x ∷ l) zero = refl
-set-there (x ∷ l) (suc k) = ap (λ (m : List ℕ). x ∷ m) (set-there l k)
-
 -- the room's word for such ticks, of the device's inputs
 quiet-inputs : {boots : Bool} {k : ℕ} {d : Device} → Quiet boots k d → room.Quiet (oscon (d .counters)) k (inputsOf d)
 quiet-inputs q = record { window = q .window; debounce = q .debounce }
@@ -97,7 +92,7 @@ event-one :
 unfolding eventTick eventsJumped
 event-one counted d e =
     ap (λ (s : Inputs). withEvents (withRegs d (set (d .regs) eventAt (s .control))) (s .events)) e
-    ∙ ap (λ (l : List ℕ). withEvents (withRegs d l) (eventsJumped counted 1 (inputsOf d) .events)) (set-there (d .regs) eventAt)
+    ∙ ap (λ (l : List ℕ). withEvents (withRegs d l) (eventsJumped counted 1 (inputsOf d) .events)) (set-getD (d .regs) eventAt 0)
 
 -- calendar and alarms of a tick that advances no hundredth
 clock-one :
