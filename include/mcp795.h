@@ -56,7 +56,7 @@ extern "C" {
 #define MCP795_ACT_EVLS 6   /* the door's switch, EVLS: its level, 0 or 1 */
 #define MCP795_ACT_EVHS 7   /* the drum's sensor, EVHS: its level, 0 or 1 */
 
-/* Refusals; mcp795_refusal_text has the words. 7 is a tape's, and is never answered here. */
+/* Refusals; mcp795_refusal_text has the words. 71 to 75 are a tape's, for a line that is bad, and are never answered here. */
 #define MCP795_DONE 0
 #define MCP795_REFUSED_SELECTED 1
 #define MCP795_REFUSED_NOT_SELECTED 2
@@ -183,7 +183,7 @@ typedef struct mcp795_answer {
     bool wdo;
 } mcp795_answer;
 
-/* What a refusal number means. */
+/* What a refusal number means; 71 to 75 for who reads the answers of a tape. */
 static inline const char *mcp795_refusal_text(int number)
 {
     switch (number) {
@@ -194,8 +194,12 @@ static inline const char *mcp795_refusal_text(int number)
     case MCP795_REFUSED_SIZE: return "a memory has not the part's length";
     case MCP795_REFUSED_POWER: return "power is off, and the act is select, byte, end or cut; or it is on, and the act is up";
     case MCP795_REFUSED_STATE: return "the chip's state is out of range, or has another length than the library's";
-    case 7: return "the line is not of the form, comes before a part, or names a part again";
     case MCP795_REFUSED_TEXT: return "the text is no saved chip, or there is too little room for it";
+    case 71: return "the line is longer than 64 bytes";
+    case 72: return "the line is not of the form";
+    case 73: return "the line has an unknown name";
+    case 74: return "the line comes before a part, or names a part again";
+    case 75: return "the line's number has a needless zero, or more than 8 digits";
     default: return "no such number";
     }
 }

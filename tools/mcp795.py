@@ -184,6 +184,7 @@ class Event(typing.NamedTuple):
 
 _LINES = 'IRQ', 'WDO', 'WIP', 'EVHIF', 'EVLIF'
 
+# 71 to 75 are a tape's, for a line that is bad: no act is refused by them
 _WORDS = {
     1: 'select, and the chip is selected already',
     2: 'byte or end, and the chip is not selected',
@@ -192,6 +193,11 @@ _WORDS = {
     5: 'power is off, and the act is select, byte, end or cut; or it is on, and the act is up',
     6: "the chip's record is out of range",
     8: 'the text is no saved chip',
+    71: 'the line is longer than 64 bytes',
+    72: 'the line is not of the form',
+    73: 'the line has an unknown name',
+    74: 'the line comes before a part, or names a part again',
+    75: "the line's number has a needless zero, or more than 8 digits",
 }
 
 

@@ -131,7 +131,7 @@ fn run(tape: &[u8], random: &mut Random, totals: &mut Totals) -> Result<(), Stri
     for (number, line) in tape.split(|&b| b == b'\n').enumerate() {
         let asked = parse(line);
         let Some(both) = &mut both else {
-            if let Some((Op::Part, part)) = asked {
+            if let Ok((Op::Part, part)) = asked {
                 let mut none = library::Chip::blank(256, 16);
                 if part_exists(part) {
                     both = Some(Both::fresh(part)?);
@@ -142,7 +142,7 @@ fn run(tape: &[u8], random: &mut Random, totals: &mut Totals) -> Result<(), Stri
             continue;
         };
         let mut acts = Vec::new();
-        if let Some((Op::Do(act), argument)) = asked {
+        if let Ok((Op::Do(act), argument)) = asked {
             acts.push((ACTS.iter().position(|&a| a == act).expect("an act") as u64, argument));
         }
         if random.once_in(20) {

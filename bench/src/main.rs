@@ -7,7 +7,7 @@ use model::Act;
 use std::time::{Duration, Instant};
 
 extern "C" {
-    // A slice passes as a pointer and a length. crates/run: `tekuravy_run`.
+    // A slice passes as a pointer and a length. crates/batch: `tekuravy_run`.
     fn tekuravy_run(
         part: u64,
         codes: *const u8,

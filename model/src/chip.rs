@@ -460,7 +460,8 @@ pub fn setup_refusal(part: u64, device: &Device, eeprom: &[u8], id: &[u8]) -> u6
     0
 }
 
-/// 01 Acts: the first row of the table that holds, in its order (7 is the tape's). 0 is done.
+/// 01 Acts: the first row of the table that holds, in its order (a line's own numbers are the
+/// tape's). 0 is done.
 pub fn refusal(part: u64, act: Act, number: u64, device: &Device, eeprom: &[u8], id: &[u8]) -> u64 {
     let setup = setup_refusal(part, device, eeprom, id);
     if setup != 0 {

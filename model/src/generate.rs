@@ -1,12 +1,13 @@
 //! Random tapes that reach deep states: whole scenes (an unlock and an ID write, a time about to
 //! carry into an alarm, a cut in the middle of a cycle), disturbed now and then by a wait, a bad
-//! line, a refused act, a missing line or a cut. There are five kinds, with scenes of their own.
+//! line, a refused act, a missing line or a cut. There are six kinds, with scenes of their own.
 //! And random chips, as saved texts, whole and spoiled.
 
 mod bits;
 mod chips;
 mod events;
 mod latch;
+mod lines;
 mod power;
 mod spoiled;
 
@@ -91,6 +92,13 @@ pub fn bits_tape(seed: u64, lines: u64) -> Vec<u8> {
 pub fn events_tape(seed: u64, lines: u64) -> Vec<u8> {
     let mut writer = Writer { free_flags: false, ..Writer::new(seed) };
     writer.scenes(seed, lines, Writer::event_scene)
+}
+
+/// A tape of bad lines, before the part and after it. `seed % 4` chooses the part.
+pub fn lines_tape(seed: u64, lines: u64) -> Vec<u8> {
+    let mut writer = Writer::new(seed);
+    writer.lines_before_the_part();
+    writer.scenes(seed, lines, Writer::lines_scene)
 }
 
 fn of_scenes(seed: u64, lines: u64, scene: fn(&mut Writer)) -> Vec<u8> {

@@ -4,9 +4,10 @@
 //! `model --generate SEED LINES` writes a random tape, and so do `model --generate-power SEED LINES`,
 //! one whose power fails often, `model --generate-latch SEED LINES`, one with writes that come to
 //! nothing, `model --generate-bits SEED LINES`, one with reads that CS breaks off in the middle of a
-//! byte, and `model --generate-events SEED LINES`, one with edges at the event inputs. `model --texts
-//! FOLDER COUNT SEED` writes saved texts, most of them spoiled, `model --judge FILE...` says of each
-//! which line is bad, and `model --plain FILE` writes a saved chip without what no act can tell.
+//! byte, `model --generate-events SEED LINES`, one with edges at the event inputs, and `model
+//! --generate-lines SEED LINES`, one of bad lines. `model --texts FOLDER COUNT SEED` writes saved
+//! texts, most of them spoiled, `model --judge FILE...` says of each which line is bad, and `model
+//! --plain FILE` writes a saved chip without what no act can tell.
 
 use std::ffi::{OsStr, OsString};
 use std::fs::{self, File, OpenOptions};
@@ -22,12 +23,13 @@ use model::tape::Tape;
 /// Makes a tape of seed and lines.
 type Generator = fn(u64, u64) -> Vec<u8>;
 
-const GENERATORS: [(&str, Generator); 5] = [
+const GENERATORS: [(&str, Generator); 6] = [
     ("--generate", generate::tape),
     ("--generate-power", generate::power_tape),
     ("--generate-latch", generate::latch_tape),
     ("--generate-bits", generate::bits_tape),
     ("--generate-events", generate::events_tape),
+    ("--generate-lines", generate::lines_tape),
 ];
 
 /// Answers all lines that have arrived before it reads on. Gives the tape at its end.

@@ -13,14 +13,57 @@ pub enum Op {
 const LONGEST_LINE: usize = 64;
 const MOST_DIGITS: usize = 8;
 
-/// A line without its newline: `op=NAME arg=N`, else none (number 7).
-pub fn parse(line: &[u8]) -> Option<(Op, u64)> {
+/// 02 Bad lines: what is wrong with a line, by its number, and the column that tells where.
+#[derive(Clone, Copy, Debug, PartialEq, Eq)]
+pub struct Fault {
+    pub number: u64,
+    /// In bytes, from 1.
+    pub column: usize,
+}
+
+/// A line without its newline. The first fault counts: its length, the form, the name, the digits.
+pub fn parse(line: &[u8]) -> Result<(Op, u64), Fault> {
     if line.len() > LONGEST_LINE {
-        return None;
+        return Err(Fault { number: 71, column: LONGEST_LINE + 1 });
     }
-    let rest = line.strip_prefix(b"op=")?;
-    let blank = rest.iter().position(|&b| b == b' ')?;
-    let op = match &rest[..blank] {
+    let Some((name, digits)) = of_the_form(line) else {
+        return Err(Fault { number: 72, column: 1 + longest_beginning(line) });
+    };
+    let Some(op) = op_of(name) else {
+        return Err(Fault { number: 73, column: START.len() + 1 });
+    };
+    let first_digit = line.len() - digits.len() + 1;
+    match number(digits) {
+        Ok(number) => Ok((op, number)),
+        Err(digit) => Err(Fault { number: 75, column: first_digit + digit }),
+    }
+}
+
+const START: &[u8] = b"op=";
+const MIDDLE: &[u8] = b" arg=";
+
+/// The letters and the digits of a line of the form, of any length, whatever name they make.
+fn of_the_form(line: &[u8]) -> Option<(&[u8], &[u8])> {
+    let rest = line.strip_prefix(START)?;
+    let (name, rest) = rest.split_at(rest.iter().position(|&b| b == b' ')?);
+    let digits = rest.strip_prefix(MIDDLE)?;
+    let letters = !name.is_empty() && name.iter().all(u8::is_ascii_lowercase);
+    (letters && !digits.is_empty() && digits.iter().all(u8::is_ascii_digit))
+        .then_some((name, digits))
+}
+
+/// How many of the line's first bytes some line of the form begins with. A beginning becomes such a
+/// line with some end of the shortest one, and so does all that it begins with.
+fn longest_beginning(line: &[u8]) -> usize {
+    const SHORTEST: &[u8] = b"op=a arg=0";
+    let begins = |bytes: &[u8]| {
+        (0..=SHORTEST.len()).any(|k| of_the_form(&[bytes, &SHORTEST[k..]].concat()).is_some())
+    };
+    (1..=line.len()).take_while(|&n| begins(&line[..n])).count()
+}
+
+fn op_of(name: &[u8]) -> Option<Op> {
+    Some(match name {
         b"part" => Op::Part,
         b"select" => Op::Do(Act::Select),
         b"byte" => Op::Do(Act::Byte),
@@ -31,18 +74,19 @@ pub fn parse(line: &[u8]) -> Option<(Op, u64)> {
         b"evls" => Op::Do(Act::Evls),
         b"evhs" => Op::Do(Act::Evhs),
         _ => return None,
-    };
-    let digits = rest[blank..].strip_prefix(b" arg=")?;
-    Some((op, number(digits)?))
+    })
 }
 
-/// 01 Tape: at most eight digits and at least one; a 0 in front stands alone.
-fn number(digits: &[u8]) -> Option<u64> {
-    let needless_zero = digits.len() > 1 && digits[0] == b'0';
-    if digits.is_empty() || digits.len() > MOST_DIGITS || needless_zero {
-        return None;
+/// 01 Tape: at most eight digits; a 0 in front stands alone. Else the place of the digit that is
+/// to blame, from 0: a needless zero, or the first digit too many.
+fn number(digits: &[u8]) -> Result<u64, usize> {
+    if digits.len() > 1 && digits[0] == b'0' {
+        return Err(0);
     }
-    digits.iter().try_fold(0, |n, &d| d.is_ascii_digit().then(|| 10 * n + u64::from(d - b'0')))
+    if digits.len() > MOST_DIGITS {
+        return Err(MOST_DIGITS);
+    }
+    Ok(digits.iter().fold(0, |n, &d| 10 * n + u64::from(d - b'0')))
 }
 
 /// A tape in the middle of its lines: the chip once a part came, and the bytes of a line that
@@ -76,7 +120,7 @@ impl Tape {
                 self.end_line(out);
             } else {
                 self.in_line = true;
-                // A longer line is bad whatever follows: one byte too many tells it.
+                // A longer line is 71 whatever follows: one byte too many tells it.
                 if self.open.len() <= LONGEST_LINE {
                     self.open.push(byte);
                 }
@@ -103,19 +147,20 @@ impl Tape {
     /// The line's number, and what `out` shows: none is z.
     fn answer(&mut self, line: &[u8]) -> (u64, Option<u64>) {
         match (parse(line), &mut self.chip) {
-            (Some((Op::Part, part)), None) => {
+            (Err(fault), _) => (fault.number, Some(fault.column as u64)),
+            (Ok((Op::Part, part)), None) => {
                 if !chip::part_exists(part) {
                     return (3, None);
                 }
                 self.chip = Some(Chip::fresh(part));
                 (0, None)
             }
-            (Some((Op::Do(act), number)), Some(c)) => {
+            (Ok((Op::Do(act), number)), Some(c)) => {
                 let answer = c.perform(act, number);
                 (answer.number, shown(act, answer))
             }
-            // Not of the form, an act before the part, or a second part.
-            _ => (7, None),
+            // An act before the part, or a second part: no byte of the line is to blame.
+            (Ok(_), _) => (74, Some(0)),
         }
     }
 

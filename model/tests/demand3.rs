@@ -96,7 +96,7 @@ fn run(seed: u64, tape: &[u8]) -> (u64, usize) {
     let (mut acts, mut entries) = (0, 0);
     let mut memories = (told.rig.eeprom.clone(), told.rig.id.clone());
     for line in tape.split(|&b| b == b'\n') {
-        let Some((Op::Do(act), number)) = parse(line) else { continue };
+        let Ok((Op::Do(act), number)) = parse(line) else { continue };
         acts += 1;
         told.act(act, number);
         let Told { rig, ledger } = &told;
@@ -437,7 +437,7 @@ fn runs_that_begin_anew_at_every_act() {
         let made = kinds[seed as usize / 4 % 4];
         let mut told = Told::new(1 + seed % 4);
         for line in made(seed, 500).split(|&b| b == b'\n') {
-            let Some((Op::Do(act), number)) = parse(line) else { continue };
+            let Ok((Op::Do(act), number)) = parse(line) else { continue };
             told.agreed(act, number);
             if told.ledger.entries.is_empty() {
                 assert_eq!(told.ledger.began, (told.rig.eeprom.clone(), told.rig.id.clone()));

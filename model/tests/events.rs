@@ -1116,20 +1116,41 @@ fn lines_of_a_tape() {
             let line = format!("op={name} arg={level}\n");
             assert_eq!(answers(&format!("op=part arg=1\n{line}{line}")), done.repeat(3));
             // Before a part.
-            assert_eq!(answers(&line), "no=7 out=z irq=1 wdo=1\n");
+            assert_eq!(answers(&line), "no=74 out=0 irq=1 wdo=1\n");
         }
         for number in ["2", "9", "10", "256", "99999999"] {
             let line = format!("op=part arg=1\nop={name} arg={number}\n");
             assert_eq!(answers(&line), format!("{done}no=3 out=z irq=1 wdo=1\n"));
         }
-        for bad in ["01", "00", "", "-1", "1 ", "100000000", "x"] {
+        // The first digit is at column 13.
+        for (bad, number, column) in [
+            ("01", 75, 13),
+            ("00", 75, 13),
+            ("", 72, 13),
+            ("-1", 72, 13),
+            ("1 ", 72, 14),
+            ("100000000", 75, 21),
+            ("x", 72, 13),
+        ] {
             let line = format!("op=part arg=1\nop={name} arg={bad}\n");
-            assert_eq!(answers(&line), format!("{done}no=7 out=z irq=1 wdo=1\n"), "{bad:?}");
+            let expected = format!("{done}no={number} out={column} irq=1 wdo=1\n");
+            assert_eq!(answers(&line), expected, "{bad:?}");
         }
     }
-    for name in ["ev", "evl", "evh", "EVLS", "Evhs", "evlss", "evhs0", "evls ", "pin"] {
+    for (name, number, column) in [
+        ("ev", 73, 4),
+        ("evl", 73, 4),
+        ("evh", 73, 4),
+        ("EVLS", 72, 4),
+        ("Evhs", 72, 4),
+        ("evlss", 73, 4),
+        ("evhs0", 72, 8),
+        ("evls ", 72, 9),
+        ("pin", 73, 4),
+    ] {
         let line = format!("op=part arg=1\nop={name} arg=1\n");
-        assert_eq!(answers(&line), format!("{done}no=7 out=z irq=1 wdo=1\n"), "{name:?}");
+        let expected = format!("{done}no={number} out={column} irq=1 wdo=1\n");
+        assert_eq!(answers(&line), expected, "{name:?}");
     }
     // IRQ goes low in the answer of the edge.
     let tape = "op=part arg=3\nop=wait arg=32\nop=select arg=0\nop=byte arg=18\nop=byte arg=11\n\

@@ -1,5 +1,5 @@
-//! The random tapes: the same for a seed, as long as asked for, and what power, latch, bits and
-//! events tapes reach.
+//! The random tapes: the same for a seed, as long as asked for, and what power, latch, bits, events
+//! and lines tapes reach.
 
 mod common;
 use std::collections::BTreeMap;
@@ -8,13 +8,13 @@ use std::fmt::Debug;
 use common::*;
 use model::calendar::{from_bcd, leap};
 use model::chip::{Device, Frame, Lock, Place, Protection};
-use model::generate::{bits_tape, events_tape, latch_tape, power_tape, tape};
-use model::tape::{answers, parse, Op};
+use model::generate::{bits_tape, events_tape, latch_tape, lines_tape, power_tape, tape};
+use model::tape::{answers, parse, Op, Tape};
 use model::Act;
 
 #[test]
 fn seeds_and_lines() {
-    let kinds = [tape, power_tape, latch_tape, bits_tape, events_tape];
+    let kinds = [tape, power_tape, latch_tape, bits_tape, events_tape, lines_tape];
     for made in kinds {
         for seed in 0..8 {
             let tape = made(seed, 1_000);
@@ -43,6 +43,7 @@ fn tapes_that_are_kept() {
         ("mixed_latch", latch_tape(4, 3_000)),
         ("mixed_bits", bits_tape(307, 3_000)),
         ("mixed_events", events_tape(40, 3_000)),
+        ("mixed_lines", lines_tape(28, 3_000)),
     ] {
         let folder = concat!(env!("CARGO_MANIFEST_DIR"), "/../crates/mcp795/data");
         let kept = std::fs::read(format!("{folder}/{name}.tape")).unwrap();
@@ -124,7 +125,7 @@ fn what_power_tapes_reach() {
     for seed in 0..100 {
         let mut rig = Rig::new(1 + seed % 4);
         for line in power_tape(seed, 400).split(|&b| b == b'\n') {
-            let Some((Op::Do(act), number)) = parse(line) else { continue };
+            let Ok((Op::Do(act), number)) = parse(line) else { continue };
             let before = rig.device.clone();
             let answer = rig.act(act, number);
             if answer.number != 0 {
@@ -232,7 +233,7 @@ fn what_latch_tapes_reach() {
         let mut rig = Rig::new(1 + seed % 4);
         latch.failed.clear();
         for line in latch_tape(seed, 400).split(|&b| b == b'\n') {
-            let Some((Op::Do(act), number)) = parse(line) else { continue };
+            let Ok((Op::Do(act), number)) = parse(line) else { continue };
             let before = rig.device.clone();
             if rig.act(act, number).number == 0 {
                 latch.act(act, number, &before, &rig.device);
@@ -398,7 +399,7 @@ fn what_bits_tapes_reach() {
     for seed in 0..100 {
         let mut rig = Rig::new(1 + seed % 4);
         for line in bits_tape(seed, 400).split(|&b| b == b'\n') {
-            let Some((Op::Do(act), number)) = parse(line) else { continue };
+            let Ok((Op::Do(act), number)) = parse(line) else { continue };
             let before = rig.clone();
             half_bytes.act(act, number, &before, &mut rig);
         }
@@ -516,10 +517,109 @@ fn what_events_tapes_reach() {
     for seed in 0..100 {
         let mut rig = Rig::new(1 + seed % 4);
         for line in events_tape(seed, 400).split(|&b| b == b'\n') {
-            let Some((Op::Do(act), number)) = parse(line) else { continue };
+            let Ok((Op::Do(act), number)) = parse(line) else { continue };
             let before = rig.device.clone();
             events.act(act, number, &before, &mut rig);
         }
     }
     events.0.often();
+}
+
+/// The bad lines of a lines tape.
+#[derive(Default)]
+struct BadLines {
+    met: Met,
+    /// By number and column.
+    columns: Met<(u64, u64)>,
+}
+
+impl BadLines {
+    fn new() -> BadLines {
+        let mut lines = BadLines::default();
+        // Up to a second digit behind the longest name, and the ends of lines of about 64.
+        for column in (1..=16).chain(63..=65) {
+            lines.columns.count((72, column), false);
+        }
+        // The first digit behind each name, and the ninth.
+        for column in (11..=15).filter(|&c| c != 14).flat_map(|first| [first, first + 8]) {
+            lines.columns.count((75, column), false);
+        }
+        lines
+    }
+
+    fn line(&mut self, line: &[u8], number: u64, out: u64, part_came: bool, chip_is_busy: bool) {
+        self.columns.count((number, out), true);
+        let met = &mut self.met;
+        let at = line.get((out as usize).wrapping_sub(1)).copied();
+        met.count("71 before the part", number == 71 && !part_came);
+        met.count("72 before the part", number == 72 && !part_came);
+        met.count("73 before the part", number == 73 && !part_came);
+        met.count("75 before the part", number == 75 && !part_came);
+        met.count("an act before the part", number == 74 && !part_came);
+        met.count("a second part", number == 74 && part_came);
+        met.count("a second part that is not there", number == 74 && line == b"op=part arg=5");
+        met.count("a bad line in a frame or a cycle", chip_is_busy);
+        met.count("71 of 65 bytes", number == 71 && line.len() == 65);
+        met.count("71 of many", number == 71 && line.len() > 100);
+        met.count("72 of 64 bytes", number == 72 && line.len() == 64);
+        met.count("73 of 64 bytes", number == 73 && line.len() == 64);
+        met.count("75 of 64 bytes", number == 75 && line.len() == 64);
+        met.count("an empty line", line.is_empty());
+        met.count("72, stops short", number == 72 && at.is_none());
+        met.count("72, a carriage return", number == 72 && at == Some(b'\r'));
+        let last = out == line.len() as u64;
+        met.count("72, a carriage return last", number == 72 && at == Some(b'\r') && last);
+        met.count("72, NUL", number == 72 && at == Some(0));
+        met.count("72, 80h or above", number == 72 && at >= Some(0x80));
+        met.count("72, a capital", number == 72 && at.is_some_and(|b| b.is_ascii_uppercase()));
+        met.count("72, a small letter", number == 72 && at.is_some_and(|b| b.is_ascii_lowercase()));
+        met.count("72, a digit", number == 72 && at.is_some_and(|b| b.is_ascii_digit()));
+        met.count("72, a blank", number == 72 && at == Some(b' '));
+        met.count("72, an equals sign", number == 72 && at == Some(b'='));
+        let digits = line.rsplit(|&b| b == b'=').next().unwrap_or(b"");
+        let (zero, many) = (digits.len() > 1 && digits[0] == b'0', digits.len() > 8);
+        met.count("73 with good digits", number == 73 && !zero && !many);
+        met.count("73 with a needless zero", number == 73 && zero);
+        met.count("73 with too many digits", number == 73 && many && !zero);
+        met.count("75, a zero and too many", number == 75 && zero && many);
+        met.count("75, 00", number == 75 && digits == b"00");
+        met.count("75, nine digits", number == 75 && !zero && digits.len() == 9);
+        met.count("75, twelve digits", number == 75 && !zero && digits.len() == 12);
+        met.count("75 of a part line", number == 75 && line.starts_with(b"op=part "));
+    }
+}
+
+#[test]
+fn what_lines_tapes_reach() {
+    let mut bad = BadLines::new();
+    for seed in 0..100 {
+        let mut state = Tape::new();
+        for line in lines_tape(seed, 400).split_inclusive(|&b| b == b'\n') {
+            let part_came = state.chip().is_some();
+            let busy = |d: &Device| d.frame != Frame::Idle || d.countdown > 0;
+            let chip_is_busy = state.chip().is_some_and(|chip| busy(&chip.device));
+            let mut out = Vec::new();
+            state.feed(line, &mut out);
+            state.finish(&mut out);
+            let answer = String::from_utf8(out).unwrap();
+            let words: Vec<&str> = answer.split([' ', '=', '\n']).collect();
+            let number = words[1].parse().unwrap();
+            let low = words[5] == "0" || words[7] == "0";
+            let line = line.strip_suffix(b"\n").unwrap_or(line);
+            let digits = line.rsplit(|&b| b == b'=').next().unwrap_or(b"").len();
+            bad.met.count("eight digits", number <= 5 && digits == 8);
+            bad.met.count("seven digits", number <= 5 && digits == 7);
+            bad.met.count("3 for the part", number == 3 && !part_came);
+            bad.met.count("an act that is done", number == 0 && part_came);
+            bad.met.count("a refused act", (1..=5).contains(&number) && part_came);
+            bad.met.count("a bad line with a level low", number > 70 && low);
+            if number > 70 {
+                bad.line(line, number, words[3].parse().unwrap(), part_came, chip_is_busy);
+            }
+        }
+    }
+    bad.met.often();
+    // Columns far inside long lines come seldom.
+    bad.columns.0.retain(|&(number, column), _| number != 72 || !(17..=62).contains(&column));
+    bad.columns.often();
 }

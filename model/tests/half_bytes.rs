@@ -371,7 +371,7 @@ fn on_a_tape() {
         [
             "no=2 out=z irq=1 wdo=1",
             "no=3 out=z irq=1 wdo=1",
-            "no=7 out=z irq=1 wdo=1",
+            "no=75 out=12 irq=1 wdo=1",
             "no=0 out=0 irq=1 wdo=1",
             "no=2 out=z irq=1 wdo=1",
             "no=0 out=127 irq=1 wdo=1",
@@ -700,7 +700,7 @@ fn ends_of_random_tapes() {
         for seed in 0..40 {
             let mut rig = Rig::new(1 + seed % 4);
             for line in made(seed, 400).split(|&b| b == b'\n') {
-                let Some((Op::Do(act), number)) = parse(line) else { continue };
+                let Ok((Op::Do(act), number)) = parse(line) else { continue };
                 let before = rig.clone();
                 let answer = rig.act(act, number);
                 if act != Act::End {

@@ -26,7 +26,8 @@ fn file(name: &str, bytes: &[u8]) -> String {
 }
 
 const DONE: &str = "no=0 out=z irq=1 wdo=1\n";
-const BAD: &str = "no=7 out=z irq=1 wdo=1\n";
+/// An act before the part, or a part after it.
+const MISPLACED: &str = "no=74 out=0 irq=1 wdo=1\n";
 
 #[test]
 fn standard_input() {
@@ -41,7 +42,7 @@ fn each_file_starts_without_a_part() {
     let first = file("first.tape", b"op=part arg=1\nop=select arg=0");
     let second = file("second.tape", b"op=select arg=0\nop=part arg=1\n");
     let output = model(&[&first, &second, &first], b"");
-    assert_eq!(output.stdout, [DONE, DONE, BAD, DONE, DONE, DONE].concat().as_bytes());
+    assert_eq!(output.stdout, [DONE, DONE, MISPLACED, DONE, DONE, DONE].concat().as_bytes());
     assert!(output.status.success());
 }
 
@@ -62,6 +63,7 @@ fn a_random_tape() {
         ("--generate-latch", model::generate::latch_tape(3, 100)),
         ("--generate-bits", model::generate::bits_tape(3, 100)),
         ("--generate-events", model::generate::events_tape(3, 100)),
+        ("--generate-lines", model::generate::lines_tape(3, 100)),
     ] {
         let output = model(&[option, "3", "100"], b"");
         assert_eq!(output.stdout, tape);
@@ -77,6 +79,7 @@ fn wrong_use_of_an_option() {
         "--generate-latch",
         "--generate-bits",
         "--generate-events",
+        "--generate-lines",
     ] {
         for words in [&[][..], &["3"], &["3", "100", "1"], &["3", "many"], &["-1", "100"]] {
             let output = model(&[&[option], words].concat(), b"");
@@ -111,7 +114,7 @@ fn a_chip_is_saved_and_loaded() {
     assert!(text.starts_with("part=3\n") && text.contains("\nstage=4,1,4\n"));
     let output = model(&["--load", &evening], b"op=byte arg=0\nop=part arg=3\nop=end arg=0");
     let read = DONE.replace("z", "1");
-    assert_eq!(output.stdout, [&read, BAD, DONE].concat().as_bytes());
+    assert_eq!(output.stdout, [&read, MISPLACED, DONE].concat().as_bytes());
     assert!(output.status.success() && output.stderr.is_empty());
     // What is loaded may be saved, there too; without a line it is the same.
     let morning = b"op=byte arg=0\n";
@@ -179,7 +182,7 @@ fn nothing_to_save() {
     let none = no_file("nothing_none.chip");
     for name in [&kept, &none] {
         let output = model(&["--save", name], b"op=select arg=0\nop=part arg=5\n");
-        assert_eq!(output.stdout, [BAD, "no=3 out=z irq=1 wdo=1\n"].concat().as_bytes());
+        assert_eq!(output.stdout, [MISPLACED, "no=3 out=z irq=1 wdo=1\n"].concat().as_bytes());
         let expected = format!("model: {name}: nothing to save: the tape names no part\n");
         assert_eq!(told(&output), expected);
         assert!(!output.status.success());

@@ -304,7 +304,7 @@ fn what_the_list_does_not_name_is_in_range() {
     in_range(W2K, |d| d.frame = Frame::Writing(Place::Clock(0xFF)));
 }
 
-/// Under the table of 01 Acts: the order of its numbers. (7 is the tape's.)
+/// Under the table of 01 Acts: the order of its numbers. (A line's own are the tape's.)
 #[test]
 fn which_goes_first() {
     // All of them: a bad part, memory, record, number, power, and no frame.

@@ -1246,8 +1246,8 @@ fn a_loaded_chip_has_its_part() {
     for part in 1..=4 {
         let state = Tape::with(good(&Text::fresh(part)));
         let (out, _) = fed(state, b"op=part arg=1\nop=select arg=0\nop=part arg=9\n");
-        let bad = "no=7 out=z irq=1 wdo=1\n";
-        assert_eq!(out, [bad, "no=0 out=z irq=1 wdo=1\n", bad].concat().as_bytes());
+        let second = "no=74 out=0 irq=1 wdo=1\n";
+        assert_eq!(out, [second, "no=0 out=z irq=1 wdo=1\n", second].concat().as_bytes());
     }
 }
 

@@ -338,14 +338,21 @@ static void by_name(void)
 
 static void words(void)
 {
-    int number, other;
+    /* 9 is none of them; 71 to 75 are a tape's */
+    static const int numbers[] = {0, 1, 2, 3, 4, 5, 6, 8, 71, 72, 73, 74, 75, 9};
+    static const int none[] = {-1, 7, 10, 70, 76};
+    size_t at, other;
     CHECK(strcmp(mcp795_refusal_text(0), "done"), 0);
     CHECK(strcmp(mcp795_refusal_text(1), "select, and the chip is selected already"), 0);
     CHECK(strcmp(mcp795_refusal_text(4), "a memory has not the part's length"), 0);
-    for (number = 0; number <= 9; number++) {
-        for (other = 0; other < number; other++) CHECK(strcmp(mcp795_refusal_text(number), mcp795_refusal_text(other)) != 0, true);
+    CHECK(strcmp(mcp795_refusal_text(72), "the line is not of the form"), 0);
+    CHECK(strcmp(mcp795_refusal_text(75), "the line's number has a needless zero, or more than 8 digits"), 0);
+    for (at = 0; at < sizeof numbers / sizeof numbers[0]; at++) {
+        for (other = 0; other < at; other++) {
+            CHECK(strcmp(mcp795_refusal_text(numbers[at]), mcp795_refusal_text(numbers[other])) != 0, true);
+        }
     }
-    CHECK(strcmp(mcp795_refusal_text(-1), mcp795_refusal_text(9)), 0);
+    for (at = 0; at < sizeof none / sizeof none[0]; at++) CHECK(strcmp(mcp795_refusal_text(none[at]), mcp795_refusal_text(9)), 0);
 }
 
 void test_refusals(void)

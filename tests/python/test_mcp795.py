@@ -336,6 +336,17 @@ class Refusals(Case):
             self.assertEqual(caught.exception.number, number)
         self.assertEqual(chip.act(Act.WAIT, 0), Answer(0, False, 0, 0, 0, 1))
 
+    def test_71_to_75_are_a_tapes(self):
+        """No act is refused by them. Their words, for who reads the answers of a tape, are those of the C header."""
+        header = (TOP / 'include' / 'mcp795.h').read_text()
+        words = {int(number): text for number, text in re.findall(r'case (\d+): return "(.*)";', header)}
+        self.assertEqual(sorted(words), [71, 72, 73, 74, 75])
+        for number in range(100):
+            known = number in (1, 2, 3, 4, 5, 6, 8, *words)
+            self.assertEqual(Refused(number, 'line', None).words != 'no row of the table', known)
+        for number, text in words.items():
+            self.assertEqual(Refused(number, 'line', None).words, text)
+
     def test_act_does_not_raise(self):
         chip = still()
         with self.unchanged(chip):
@@ -1210,25 +1221,46 @@ class Saved(Case):
 class Tapes(Case):
     """The tapes of crates/mcp795/data by the named acts, against their stored answers; without the long random ones."""
 
-    LINE = re.compile(rb'op=([a-z]+) arg=(0|[1-9][0-9]{0,7})')
+    LINE = re.compile(rb'op=([a-z]+) arg=([0-9]+)')
+    # as much of a line as one of the form may begin with
+    BEGUN = re.compile(rb'(o(p(=([a-z]+( (a(r(g(=[0-9]*)?)?)?)?)?)?)?)?)?')
+    NAMES = b'part', b'select', b'byte', b'end', b'wait', b'cut', b'up', b'evls', b'evhs'
+
+    def fault(self, line):
+        """Number and column of a bad line; None of one that is not."""
+        match = self.LINE.fullmatch(line)
+        if len(line) > 64:
+            return 71, 65
+        if not match:
+            return 72, self.BEGUN.match(line).end() + 1
+        name, digits = match.groups()
+        if name not in self.NAMES:
+            return 73, 4
+        if len(digits) > 1 and digits.startswith(b'0'):
+            return 75, match.start(2) + 1
+        if len(digits) > 8:
+            return 75, match.start(2) + 9
+        if (name == b'part') != (self.chip is None):
+            return 74, 0
+        return None
 
     def answer(self, line):
-        match = self.LINE.fullmatch(line)
-        name, number = (match.group(1).decode(), int(match.group(2))) if match and len(line) <= 64 else (None, 0)
         out, refusal = None, 0
+        fault = self.fault(line)
+        name, number = (None, 0) if fault else (self.LINE.fullmatch(line).group(1).decode(), int(self.LINE.fullmatch(line).group(2)))
         try:
-            if name == 'part' and self.chip is None:
+            if fault:
+                refusal, out = fault
+            elif name == 'part':
                 self.chip = Chip(number, spi_hz=None)
-            elif name in ('select', 'up') and self.chip is not None and number == 0:
+            elif name in ('select', 'up') and number == 0:
                 getattr(self.chip, name)()
-            elif name in ('byte', 'end', 'wait', 'cut') and self.chip is not None:
+            elif name in ('byte', 'end', 'wait', 'cut'):
                 out = getattr(self.chip, name)(number)
-            elif name in ('evls', 'evhs') and self.chip is not None:
+            elif name in ('evls', 'evhs'):
                 setattr(self.chip, {'evls': 'door', 'evhs': 'drum'}[name], number)
-            elif name in ('select', 'up') and self.chip is not None:
-                refusal = self.chip.act(Act[name.upper()], number).refusal
             else:
-                refusal = 7
+                refusal = self.chip.act(Act[name.upper()], number).refusal
         except Refused as error:
             refusal = error.number
         levels = (self.chip.irq, self.chip.wdo) if self.chip else (1, 1)

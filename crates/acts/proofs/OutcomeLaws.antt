@@ -93,7 +93,7 @@ done-passed part act arg w e = sym (answered-by-table part act arg w) ∙ e
 pub done-as : (part : ℕ) (act : Act) (arg : ℕ) (w : World) → performed part act arg w .number ≡ 0 → performed part act arg w ≡ accepted part arg w act
 done-as part act arg w e = by-acceptance part act arg w (done-passed part act arg w e)
 
--- number 7 is the tape's: no act is answered with it
+-- what is refused as a line is the tape's: no act's number is above 6
 last-below : (act : Act) (sel : Bool) → wrongSelect act sel < 7
 last-below Select sel = pick-case (λ (k : ℕ). k < 7) sel (omega arith) (omega arith)
 last-below Byte sel = pick-case (λ (k : ℕ). k < 7) sel (omega arith) (omega arith)

@@ -1,11 +1,11 @@
--- Laws of a line's answer: when it is 7; that a refused line changes nothing; as the code shows it: a refused line, a fresh chip, an
+-- Laws of a line's answer: that a refused line changes nothing; as the code shows it: a refused line, a fresh chip, an
 -- act's outcome; and that a tape stays one with which the acts may go on.
 -- Assumes nothing.
 use mathlib.Core.Path.{_≡_, refl, sym, ap, _∙_}
-use mathlib.Core.Logic.{_↔_, _≢_}
+use mathlib.Core.Logic.{_≢_}
 use mathlib.Core.Bool.{Bool, true, false, true≢false, _||_, or-true}
 use mathlib.Core.List.{List, _++_}
-use Prim.Native.Nat.{ℕ, _<_}
+use Prim.Native.Nat.{ℕ}
 use native.Mathlib.Omega.{arith}
 use lib.Dec.{eqb}
 use lib.ListN.{length, take, drop, replicate, length-replicate}
@@ -13,7 +13,7 @@ use lib.Seq.{take-all}
 use borrow.Author.Tests.{eqb-true, eq-eqb}
 use Rattle.base.specs.Words.{over}
 use Rattle.base.proofs.OverLaws.{over-start, over-whole}
-use Rattle.base.proofs.Tests.{by-cases, yes, no, pick-case, pick-when}
+use Rattle.base.proofs.Tests.{by-cases, yes, no, pick-when}
 use Rattle.record.specs.declared.Act.{Act}
 use Rattle.record.specs.declared.Act.the-variants.{Select, Byte, End, Wait, Cut, Up, Set}
 use Rattle.record.specs.declared.Device.{Device}
@@ -26,7 +26,7 @@ use Rattle.refusals.proofs.RangeLaws.{in-range, out-of-range, fresh-facts}
 use Rattle.refusals.proofs.TableLaws.{setup-passed, setup-passes}
 use Rattle.acts.specs.declared.Answer.{Answer}
 use Rattle.acts.specs.Act.{Outcome, refusalIn, performed, outcomeOf}
-use Rattle.acts.proofs.OutcomeLaws.{done-zero, never-seven, refused-same}
+use Rattle.acts.proofs.OutcomeLaws.{done-zero, refused-same}
 use Rattle.acts.proofs.SuitedLaws.{performed-follows}
 use Rattle.lines.specs.declared.Request.{Request}
 use Rattle.lines.specs.declared.Request.the-variants.{PartLine, ActLine, Bad}
@@ -35,36 +35,7 @@ use Rattle.lines.specs.Request.{requestOf}
 use Rattle.lines.specs.declared.Out.{Out}
 use Rattle.lines.specs.declared.Out.the-variants.{Z}
 use Rattle.lines.specs.Print.{replyOut, showsCount, outOf}
-use Rattle.lines.proofs.LineLaws.{bad-line}
-use Rattle.answers.specs.Answer.{Setup, setup, noPart, freshSetup, LineAnswer, answer, refusedLine, partAnswer, outcomeAnswer, actAnswer, requestAnswer, lineAnswer, SevenRow, bad, early, again, RepliesShown, lineOf, answerText, Held, eepromBytes, idBytes, setupIn, holding, Shown, shownIn, ready, lineIn}
-
--- A part's line is answered 7 only after a part, an act's line only before one.
-part-below : (arg : ℕ) (s : Setup) → noPart s ≡ true → partAnswer arg s .number < 7
-part-below arg s t = rw t (pick-case (λ (a : LineAnswer). a .number < 7) (isPart arg) (omega arith) (omega arith))
-
-act-below : (act : Act) (arg : ℕ) (s : Setup) → noPart s ≡ false → actAnswer act arg s .number < 7
-act-below act arg s f = rw f (never-seven (s .part) act arg (s .chip))
-
-part-seven : (line : List ℕ) (s : Setup) (arg : ℕ) → requestOf line ≡ PartLine arg → SevenRow line s → partAnswer arg s .number ≡ 7
-part-seven line s arg e (bad b) = absurd (let c = bad-line line .1 b in let z : _≡_ {A = ℕ} 0 1 = cc in omega arith)
-part-seven line s arg e (early a m q t) = absurd (let z : _≡_ {A = ℕ} 0 1 = cc in omega arith)
-part-seven line s arg e (again m q f) = ap (λ (x : LineAnswer). x .number) (sym (no _ (refusedLine 7 s) f))
-
-act-seven : (line : List ℕ) (s : Setup) (act : Act) (arg : ℕ) → requestOf line ≡ ActLine act arg → SevenRow line s → actAnswer act arg s .number ≡ 7
-act-seven line s act arg e (bad b) = absurd (let c = bad-line line .1 b in let z : _≡_ {A = ℕ} 0 1 = cc in omega arith)
-act-seven line s act arg e (early b m q t) = ap (λ (x : LineAnswer). x .number) (sym (yes (refusedLine 7 s) _ t))
-act-seven line s act arg e (again m q f) = absurd (let z : _≡_ {A = ℕ} 0 1 = cc in omega arith)
-
-seven-asked : (line : List ℕ) (s : Setup) (r : Request) → requestOf line ≡ r → (requestAnswer r s .number ≡ 7) ↔ SevenRow line s
-seven-asked line s (PartLine arg) e = (
-  λ k. by-cases (noPart s) (λ t. absurd (omega (arith, k, part-below arg s t))) (again arg e),
-  part-seven line s arg e,
-)
-seven-asked line s (ActLine act arg) e = (
-  λ k. by-cases (noPart s) (early act arg e) (λ f. absurd (omega (arith, k, act-below act arg s f))),
-  act-seven line s act arg e,
-)
-seven-asked line s Bad e = (λ k. bad (bad-line line .0 e), λ q. refl)
+use Rattle.answers.specs.Answer.{Setup, setup, noPart, freshSetup, LineAnswer, answer, outcomeAnswer, actAnswer, requestAnswer, lineAnswer, misplaced, RepliesShown, lineOf, answerText, Held, eepromBytes, idBytes, setupIn, holding, Shown, shownIn, ready, lineIn}
 
 -- what is shown of an act without a count: its reply, where it is done, and none, which is a refused act's reply too
 reply-shown : (part : ℕ) (act : Act) (arg : ℕ) (s : Setup) → showsCount act ≡ false
@@ -80,7 +51,7 @@ line-shown :
 unfolding lineAnswer
 line-shown line act arg s e f c =
     ap (λ (r : Request). requestAnswer r s .out) e
-    ∙ ap (λ (a : LineAnswer). a .out) (sym (no (refusedLine 7 s) _ f))
+    ∙ ap (λ (a : LineAnswer). a .out) (sym (no (misplaced s) _ f))
     ∙ reply-shown (s .part) act arg s c
 
 -- a wait and a cut alone show a count
@@ -99,11 +70,6 @@ replies-shown line act arg s e f w c =
     let q = line-shown line act arg s e f (counts-not act w c) in
     (λ n r. q ∙ ap replyOut r, λ r. q ∙ ap replyOut r)
 
--- number 7 is given exactly when the line is bad, or is an act's before a part, or a part's after one
-pub seven-exactly : (line : List ℕ) (s : Setup) → (lineAnswer line s .number ≡ 7) ↔ SevenRow line s
-unfolding lineAnswer
-seven-exactly line s = seven-asked line s (requestOf line) refl
-
 -- A refused line changes nothing: a part that is refused does not count, and an act that is refused leaves the chip as it was.
 abbrev LeavesSetup : Setup → LineAnswer → Type 0
 LeavesSetup s x = eqb (x .number) 0 ≡ false → x .after ≡ s
@@ -119,7 +85,7 @@ request-kept : (r : Request) (s : Setup) → LeavesSetup s (requestAnswer r s)
 request-kept (PartLine arg) s =
     pick-when (LeavesSetup s) (noPart s) (λ t. pick-when (LeavesSetup s) (isPart arg) (λ p h. absurd (true≢false h)) (λ p h. refl)) (λ f h. refl)
 request-kept (ActLine act arg) s = pick-when (LeavesSetup s) (noPart s) (λ t h. refl) (λ f. act-kept act arg s)
-request-kept Bad s = λ h. refl
+request-kept (Bad number column) s = λ h. refl
 
 pub refused-setup : (line : List ℕ) (s : Setup) → eqb (lineAnswer line s .number) 0 ≡ false → lineAnswer line s .after ≡ s
 unfolding lineAnswer
@@ -152,9 +118,9 @@ pub same-held : (h : Held) → holding h (setupIn h) ≡ h
 same-held h =
     λ i. record { part = h .part; device = h .device; eeprom = over-start (eepromBytes (h .part)) (h .eeprom) i; id = over-start (idBytes (h .part)) (h .id) i }
 
-pub refused-shown : (h : Held) (o : Buffer) (number : ℕ) → lineIn h o number Z ≡ shownIn h o (refusedLine number (setupIn h))
+pub refused-shown : (h : Held) (o : Buffer) (number : ℕ) (out : Out) → lineIn h o number out ≡ shownIn h o (answer number out (setupIn h))
 unfolding shownIn answerText
-refused-shown h o number = ap (λ (x : Held). lineIn x o number Z) (sym (same-held h))
+refused-shown h o number out = ap (λ (x : Held). lineIn x o number out) (sym (same-held h))
 
 -- a part has the first of the lent bytes
 held-eeprom : (part : ℕ) → eqb part 0 ≡ false → eepromBytes part ≡ sizeOf part
@@ -200,7 +166,7 @@ outcome-shown h o act arg a x id out some l m n e f =
     λ i. lineIn (record { part = part; device = a .device; eeprom = p i; id = q i }) o (a .number) (e i) in
     laid
     ∙ ap (λ (y : Outcome). shownIn h o (outcomeAnswer part act y)) (f ∙ ap (performed part act arg) chip)
-    ∙ ap (shownIn h o) (no (refusedLine 7 (setupIn h)) (outcomeAnswer part act (performed part act arg (setupIn h .chip))) some)
+    ∙ ap (shownIn h o) (no (misplaced (setupIn h)) (outcomeAnswer part act (performed part act arg (setupIn h .chip))) some)
 
 -- what an act may go on with: the setup of a part that is ready, with memories of its lengths
 pub ready-suits :
@@ -233,7 +199,7 @@ request-ready (PartLine arg) s h =
     let P : LineAnswer → Type 0 = λ a. ReadySetup (a .after) in
     pick-when P (noPart s) (λ t. pick-when P (isPart arg) (λ p. ready-in-range arg fresh p (fresh-facts arg)) (λ p. h)) (λ f. h)
 request-ready (ActLine act arg) s h = pick-when (λ (a : LineAnswer). ReadySetup (a .after)) (noPart s) (λ t. h) (λ f. act-ready act arg s f h)
-request-ready Bad s h = h
+request-ready (Bad number column) s h = h
 
 pub line-ready : (line : List ℕ) (s : Setup) → ReadySetup s → ReadySetup (lineAnswer line s .after)
 unfolding lineAnswer

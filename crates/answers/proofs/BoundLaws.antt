@@ -24,7 +24,8 @@ use Rattle.lines.specs.declared.Out.the-variants.{Z}
 use Rattle.lines.specs.Print.{outText, replyOut, showsCount, outRoom, answerRoom}
 use Rattle.lines.specs.Request.{requestOf}
 use Rattle.lines.proofs.PrintLaws.{answer-most}
-use Rattle.answers.specs.Answer.{Setup, noPart, LineAnswer, answer, outcomeAnswer, requestAnswer, lineAnswer, answerText}
+use Rattle.lines.proofs.LineLaws.{TwoDigits, fault-small}
+use Rattle.answers.specs.Answer.{Setup, noPart, LineAnswer, answer, faultyLine, outcomeAnswer, requestAnswer, lineAnswer, answerText}
 
 -- a setup without a part, or with a valid chip of its part
 abbrev pub SetupValid : Setup → Type 0
@@ -37,18 +38,18 @@ request-valid (PartLine arg) s v =
     pick-case P (noPart s) (pick-case P (isPart arg) (λ e. fresh-valid arg) v) v
 request-valid (ActLine act arg) s v =
     pick-when (λ (x : LineAnswer). SetupValid (x .after)) (noPart s) (λ t. v) (λ f e. performed-valid (s .part) act arg (s .chip) (v f))
-request-valid Bad s v = v
+request-valid (Bad number column) s v = v
 
 pub answer-valid : (line : List ℕ) (s : Setup) → SetupValid s → SetupValid (lineAnswer line s .after)
 unfolding lineAnswer
 answer-valid line s = request-valid (requestOf line) s
 
--- an answer whose number has one digit, and that shows no more than there is room for
+-- an answer whose number has two digits at most, and that shows no more than there is room for
 record Short (x : LineAnswer) : Type 0 where
-  number : x .number < 10
+  number : x .number < 100
   out : length (outText (x .out)) ≤ outRoom
 
-none-short : (number : ℕ) (s : Setup) → number < 10 → Short (answer number Z s)
+none-short : (number : ℕ) (s : Setup) → number < 100 → Short (answer number Z s)
 none-short number s h = record { number = h; out = omega arith }
 
 -- a count and a byte have eight places at most
@@ -70,18 +71,21 @@ outcome-short part act o m =
           (omega arith);
     }
 
-request-short : (r : Request) (s : Setup) → SetupValid s → Short (requestAnswer r s)
-request-short (PartLine arg) s v =
-    pick-case Short (noPart s) (pick-case Short (isPart arg) (none-short 0 _ (omega arith)) (none-short 3 _ (omega arith))) (none-short 7 _ (omega arith))
-request-short (ActLine act arg) s v =
-    pick-when Short (noPart s) (λ t. none-short 7 s (omega arith))
+fault-short : (number column : ℕ) (s : Setup) → number < 100 → column < 100 → Short (faultyLine number column s)
+fault-short number column s n c = record { number = n; out = value-most column (omega arith) }
+
+request-short : (r : Request) (s : Setup) → TwoDigits r → SetupValid s → Short (requestAnswer r s)
+request-short (PartLine arg) s d v =
+    pick-case Short (noPart s) (pick-case Short (isPart arg) (none-short 0 _ (omega arith)) (none-short 3 _ (omega arith))) (fault-short 74 0 _ (omega arith) (omega arith))
+request-short (ActLine act arg) s d v =
+    pick-when Short (noPart s) (λ t. fault-short 74 0 s (omega arith) (omega arith))
     (λ f. outcome-short (s .part) act (performed (s .part) act arg (s .chip)) (performed-small (s .part) act arg (s .chip) (v f)))
-request-short Bad s v = none-short 7 s (omega arith)
+request-short (Bad number column) s d v = fault-short number column s (d .1) (d .2)
 
 -- the text of an answer has room
 pub answer-room : (line : List ℕ) (s : Setup) → SetupValid s → length (answerText (lineAnswer line s)) ≤ answerRoom
 unfolding lineAnswer answerText
 answer-room line s v =
     let x = requestAnswer (requestOf line) s in
-    let b = request-short (requestOf line) s v in
+    let b = request-short (requestOf line) s (fault-small line) v in
     answer-most (x .number) (x .out) _ _ (b .number) (b .out)

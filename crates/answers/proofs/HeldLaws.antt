@@ -22,7 +22,7 @@ use Rattle.acts.proofs.SuitedLaws.{performed-follows}
 use Rattle.lines.specs.declared.Request.{Request}
 use Rattle.lines.specs.declared.Request.the-variants.{PartLine, ActLine, Bad}
 use Rattle.lines.specs.Request.{requestOf}
-use Rattle.answers.specs.Answer.{Setup, setup, noPart, freshSetup, LineAnswer, refusedLine, requestAnswer, lineAnswer, Held, eepromBytes, idBytes, setupIn, holding, eepromRoom, Lent, ready}
+use Rattle.answers.specs.Answer.{Setup, setup, noPart, freshSetup, LineAnswer, misplaced, requestAnswer, lineAnswer, Held, eepromBytes, idBytes, setupIn, holding, eepromRoom, Lent, ready}
 use Rattle.answers.proofs.AnswerLaws.{ready-suits, line-ready, same-held}
 
 -- a setup with which a tape may go on, and whose memories have the sizes of its part
@@ -69,7 +69,7 @@ request-lengths (PartLine arg) s g =
     pick-case P (noPart s) (pick-when P (isPart arg) (fresh-lengths arg) (λ p. same)) same
 request-lengths (ActLine act arg) s g =
     pick-when (λ (a : LineAnswer). Lengths (a .after)) (noPart s) (λ t. (g .eeprom, g .id)) (λ f. act-lengths act arg s f g)
-request-lengths Bad s g = (g .eeprom, g .id)
+request-lengths (Bad number column) s g = (g .eeprom, g .id)
 
 pub line-sound : (line : List ℕ) (s : Setup) → Sound s → Sound (lineAnswer line s .after)
 unfolding lineAnswer
@@ -79,9 +79,9 @@ line-sound line s g =
 
 -- a part that was accepted stays
 request-part : (r : Request) (s : Setup) → noPart s ≡ false → requestAnswer r s .after .part ≡ s .part
-request-part (PartLine arg) s f = ap (λ (a : LineAnswer). a .after .part) (sym (no _ (refusedLine 7 s) f))
+request-part (PartLine arg) s f = ap (λ (a : LineAnswer). a .after .part) (sym (no _ (misplaced s) f))
 request-part (ActLine act arg) s f = pick-case (λ (a : LineAnswer). a .after .part ≡ s .part) (noPart s) refl refl
-request-part Bad s f = refl
+request-part (Bad number column) s f = refl
 
 -- so the memories do not become shorter: there are none before a part
 line-longer :

@@ -1,3 +1,4 @@
 pub mod AnswerLaws
 pub mod HeldLaws
 pub mod BoundLaws
+pub mod JudgedLaws

@@ -2,7 +2,7 @@
 -- Assumes nothing.
 use Prim.Native.Nat.{ℕ}
 use mathlib.Core.Path.{_≡_}
-use mathlib.Core.Bool.{Bool, true, false, not, _||_}
+use mathlib.Core.Bool.{Bool, false, not, _||_}
 use mathlib.Core.List.{List}
 use mathlib.Core.Logic.{_≢_}
 use lib.Dec.{eqb}
@@ -22,7 +22,7 @@ use Rattle.lines.specs.declared.Request.{Request}
 use Rattle.lines.specs.declared.Request.the-variants.{PartLine, ActLine, Bad}
 use Rattle.lines.specs.declared.Out.{Out}
 use Rattle.lines.specs.declared.Out.the-variants.{Value, Z}
-use Rattle.lines.specs.Request.{badLine, requestOf}
+use Rattle.lines.specs.Request.{requestOf}
 use Rattle.lines.specs.Print.{outOf, answerLine}
 use Rattle.answers.specs.declared.Progress.{Progress}
 
@@ -54,34 +54,33 @@ answer number out after = record { number = number; out = out; after = after }
 abbrev pub refusedLine : ℕ → Setup → LineAnswer
 refusedLine number s = answer number Z s
 
--- T6, T7. A part is taken once; a second is 7. One that is none of the four is refused with 3, and the tape stays without a part.
+-- A31, A34. A line that is bad shows its column, and changes nothing.
+abbrev pub faultyLine : ℕ → ℕ → Setup → LineAnswer
+faultyLine number column s = answer number (Value column) s
+
+-- T6, T18. An act before the part, or a part again, has no column of its own.
+abbrev pub misplaced : Setup → LineAnswer
+misplaced s = faultyLine 74 0 s
+
+-- T6, T7. A part is taken once. One that is none of the four is refused with 3, and the tape stays without a part.
 abbrev pub partAnswer : ℕ → Setup → LineAnswer
-partAnswer arg s = pick (noPart s) (pick (isPart arg) (answer 0 Z (freshSetup arg)) (refusedLine 3 s)) (refusedLine 7 s)
+partAnswer arg s = pick (noPart s) (pick (isPart arg) (answer 0 Z (freshSetup arg)) (refusedLine 3 s)) (misplaced s)
 
 -- what an act's outcome shows
 abbrev pub outcomeAnswer : ℕ → Act → Outcome → LineAnswer
 outcomeAnswer part act o = answer (o .number) (outOf (o .number) act (o .reply) (o .count)) (setup part (o .after))
 
--- T6. An act before the part is 7.
+-- T6. An act wants a part.
 abbrev pub actAnswer : Act → ℕ → Setup → LineAnswer
-actAnswer act arg s = pick (noPart s) (refusedLine 7 s) (outcomeAnswer (s .part) act (performed (s .part) act arg (s .chip)))
+actAnswer act arg s = pick (noPart s) (misplaced s) (outcomeAnswer (s .part) act (performed (s .part) act arg (s .chip)))
 
 abbrev pub requestAnswer : Request → Setup → LineAnswer
 requestAnswer (PartLine arg) s = partAnswer arg s
 requestAnswer (ActLine act arg) s = actAnswer act arg s
-requestAnswer Bad s = refusedLine 7 s
+requestAnswer (Bad number column) s = faultyLine number column s
 
 unfoldable pub lineAnswer : List ℕ → Setup → LineAnswer
 lineAnswer line s = requestAnswer (requestOf line) s
-
--- A31, A32. When a line is 7, said apart from the choices above. That it is 7 exactly then is proved.
-pub data SevenRow (line : List ℕ) (s : Setup) : Type 0 where
-  -- A31. The line is bad by itself.
-  bad : badLine line ≡ true → SevenRow line s
-  -- T6. It names an act, and there is no part yet.
-  early : (act : Act) (arg : ℕ) → requestOf line ≡ ActLine act arg → noPart s ≡ true → SevenRow line s
-  -- T6. It names a part, and there is one.
-  again : (arg : ℕ) → requestOf line ≡ PartLine arg → noPart s ≡ false → SevenRow line s
 
 -- T8, A4, A38. What a line shows of an act other than a wait and a cut, once there is a part: the number that its reply drives, a byte's or that of an end's
 -- bits, else z; said apart from the choices above.

@@ -10,7 +10,7 @@ ghost use Prim.Native.Nat.{ℕ, _+_, _≤_};
 ghost use lib.ListN.{length};
 ghost use Rattle.text.specs.Buffer.{buffer};
 ghost use Rattle.lines.specs.Print.{answerRoom};
-ghost use Rattle.answers.specs.Answer.{levelHigh, partAnswer, actAnswer, refusedLine, lineAnswer, Lent, ready, setupIn, heldBy, shownIn, shownBy, lineIn};
+ghost use Rattle.answers.specs.Answer.{levelHigh, answer, partAnswer, actAnswer, lineAnswer, Lent, ready, setupIn, heldBy, shownIn, shownBy, lineIn};
 
 // How far a tape has come between two lines: its part, 0 while none is accepted, the chip's record, and the place in the output.
 pub struct Progress {
@@ -43,7 +43,7 @@ fn told(number: u8, out: Out, part: u64, d: Device, into: &mut [u8], at: usize) 
 {
     let irq = high(part, ticks::lines::irq_low(d));
     let wdo = high(part, ticks::lines::wdo_low(d));
-    let end = lines::print::put_answer(number, out, irq, wdo, into, at);
+    let end = codec::print::put_answer(number, out, irq, wdo, into, at);
     Progress {
         part,
         device: d,
@@ -51,14 +51,14 @@ fn told(number: u8, out: Out, part: u64, d: Device, into: &mut [u8], at: usize) 
     }
 }
 
-// A34. A line that is refused, whatever the memories hold.
-fn refused_line(number: u8, p: Progress, into: &mut [u8]) -> Progress
+// A34. A line that is refused, with its column or none, whatever the memories hold.
+fn refused_line(number: u8, out: Out, p: Progress, into: &mut [u8]) -> Progress
     requires { ⌜ p .at + answerRoom ≤ length (now into) ⌝ }
     ensures { λ r. ⌜ ((ee id : List ℕ) → shownBy r ee id (now (into .exit))
-        ≡ shownIn (heldBy p ee id) (buffer (now (into .entry)) (p .at)) (refusedLine number (setupIn (heldBy p ee id)))) ⌝ }
+        ≡ shownIn (heldBy p ee id) (buffer (now (into .entry)) (p .at)) (answer number out (setupIn (heldBy p ee id)))) ⌝ }
 {
     let d = p.device;
-    told(number, Out::Z, p.part, d, into, p.at)
+    told(number, out, p.part, d, into, p.at)
 }
 
 // T6, T7. A line `op=part`: the first of a part that there is makes a fresh chip.
@@ -71,11 +71,11 @@ fn part_line(arg: u64, p: Progress, eeprom: &mut [u8], id: &mut [u8], into: &mut
 {
     let none = p.part == 0;
     if !none {
-        return refused_line(7, p, into);
+        return refused_line(74, Out::Value(0), p, into);
     }
     let is_part = record::part::is_part(arg);
     if !is_part {
-        return refused_line(3, p, into);
+        return refused_line(3, Out::Z, p, into);
     }
     let size = record::part::size(arg) as usize;
     acts::page::erase(&mut eeprom[..size]);
@@ -101,14 +101,14 @@ fn act_line(
 {
     let none = p.part == 0;
     if none {
-        return refused_line(7, p, into);
+        return refused_line(74, Out::Value(0), p, into);
     }
     let size = record::part::size(p.part) as usize;
     let d = p.device;
     let a = acts::perform_in_range(p.part, act, arg, d, &mut eeprom[..size], id);
     let reply = a.reply;
     let next = a.device;
-    let out = lines::print::out_of(a.number, act, reply, a.count);
+    let out = codec::print::out_of(a.number, act, reply, a.count);
     told(a.number, out, p.part, next, into, p.at)
 }
 
@@ -127,10 +127,10 @@ pub fn answer_line(
         ≡ shownIn (heldBy p (now (eeprom .entry)) (now (id .entry))) (buffer (now (into .entry)) (p .at))
         (lineAnswer (now (line .entry)) (setupIn (heldBy p (now (eeprom .entry)) (now (id .entry))))) ⌝ }
 {
-    let r = lines::line::request(line);
+    let r = codec::line::request(line);
     match r {
         Request::PartLine(arg) => part_line(arg, p, eeprom, id, into),
         Request::ActLine(act, arg) => act_line(act, arg, p, eeprom, id, into),
-        Request::Bad => refused_line(7, p, into),
+        Request::Bad(number, column) => refused_line(number, Out::Value(column), p, into),
     }
 }

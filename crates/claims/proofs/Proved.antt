@@ -14,7 +14,8 @@ use Rattle.run.proofs.LeftoverLaws.{leftover-bits}
 use Rattle.run.proofs.StampLaws.{time-stamps}
 use Rattle.run.proofs.WrongLaws.{wrong-chips-fail}
 use Rattle.lines.proofs.LineLaws.{asks-exactly}
-use Rattle.answers.proofs.AnswerLaws.{seven-exactly, replies-shown, refused-setup}
+use Rattle.answers.proofs.AnswerLaws.{replies-shown, refused-setup}
+use Rattle.answers.proofs.JudgedLaws.{lines-judged}
 use Rattle.feeding.proofs.BeginLaws.{chip-answers, cut-in-two, tape-runs}
 use Rattle.feeding.proofs.FeedLaws.{any-feeding, any-resumed, resumed-accounted, cut-feeding, resumes-with}
 use Rattle.form.proofs.SavedLaws.{saved-right}
@@ -22,9 +23,9 @@ use Rattle.events.proofs.BeginLaws.{event-claims}
 use Rattle.signals.proofs.ClaimLaws.{events-right}
 use Rattle.signals.proofs.BeforeLaws.{as-before}
 use Rattle.acts.proofs.perform.Met as perform
-use Rattle.run.proofs.run.Met as run
-use Rattle.run.proofs.run_from.Met as run-from
-use Rattle.run.proofs.tekuravy_run.Met as tekuravy-run
+use Rattle.batch.proofs.run.Met as run
+use Rattle.batch.proofs.run_from.Met as run-from
+use Rattle.batch.proofs.tekuravy_run.Met as tekuravy-run
 use Rattle.tape.proofs.chunk.start.Met as start
 use Rattle.tape.proofs.chunk.resume.Met as resume
 use Rattle.tape.proofs.chunk.feed.Met as feed
@@ -48,7 +49,7 @@ total =
           );
       unchanged = λ part act arg w n. refused-same part act arg w (ne-eqb _ 0 n);
       asks = asks-exactly;
-      seven = seven-exactly;
+      judged = lines-judged;
       line-unchanged = λ line s n. refused-setup line s (ne-eqb _ 0 n);
     }
 

@@ -21,7 +21,8 @@ use Rattle.run.specs.Stamps.{TimeStamps}
 use Rattle.run.specs.Wrong.{WrongChipsFail}
 use Rattle.lines.specs.declared.Name.{Name}
 use Rattle.lines.specs.Request.{requestOf, asked, unknownName, Spelled}
-use Rattle.answers.specs.Answer.{Setup, lineAnswer, SevenRow, RepliesShown}
+use Rattle.answers.specs.Answer.{Setup, lineAnswer, RepliesShown}
+use Rattle.answers.specs.Judged.{LinesJudged}
 use Rattle.feeding.specs.Begin.{ResumesWith, ChipAnswers, CutInTwo, TapeRuns}
 use Rattle.feeding.specs.Feeding.{AnyFeeding, AnyResumed, ResumedAccounted, CutFeeding}
 use Rattle.form.specs.Claim.{SavedRight}
@@ -30,9 +31,9 @@ use Rattle.events.specs.Claims.{EventClaims}
 use Rattle.signals.specs.Claim.{EventsRight}
 use Rattle.signals.specs.Before.{AsBefore}
 use Rattle.acts.proofs.perform.Statement as perform
-use Rattle.run.proofs.run.Statement as run
-use Rattle.run.proofs.run_from.Statement as run-from
-use Rattle.run.proofs.tekuravy_run.Statement as tekuravy-run
+use Rattle.batch.proofs.run.Statement as run
+use Rattle.batch.proofs.run_from.Statement as run-from
+use Rattle.batch.proofs.tekuravy_run.Statement as tekuravy-run
 use Rattle.tape.proofs.chunk.start.Statement as start
 use Rattle.tape.proofs.chunk.resume.Statement as resume
 use Rattle.tape.proofs.chunk.feed.Statement as feed
@@ -58,8 +59,9 @@ pub record Total : Type 0 where
       → performed part act arg w ≡ refused (performed part act arg w .number) w
   -- a tape's line asks for a part or an act exactly if it is its text: `op=`, the name, ` arg=` and the number, of at most 8 digits
   pub asks : (line : List ℕ) (x : Name) (arg : ℕ) → unknownName x ≡ false → (requestOf line ≡ asked x arg) ↔ Spelled line x arg
-  -- a line is answered 7 exactly when it is bad, an act's before there is a part, or a part's after one
-  pub seven : (line : List ℕ) (s : Setup) → (lineAnswer line s .number ≡ 7) ↔ SevenRow line s
+  -- a line is answered 71 to 75, and with which column, exactly by the first row that holds, in the order 71, 72, 73, 75, 74; it is good exactly if none holds;
+  -- together the five are the one number of before, and nothing else of an answer changed
+  pub judged : LinesJudged
   -- and a refused line leaves part, record and memories as they were
   pub line-unchanged : (line : List ℕ) (s : Setup) → lineAnswer line s .number ≢ 0 → lineAnswer line s .after ≡ s
 
@@ -68,7 +70,7 @@ pub record Total : Type 0 where
 pub record Exact : Type 2 where
   -- crates/acts/src/lib.rt. One equation: answer, record and both memories are those of `performed`
   pub perform : {M : Type 1} → perform.statement M
-  -- crates/run/src/lib.rt. A list of acts on a fresh chip; and the same for a caller in another language
+  -- crates/batch/src/lib.rt. A list of acts on a fresh chip; and the same for a caller in another language
   pub run : {M : Type 1} → run.statement M
   pub tekuravy-run : {M : Type 1} → tekuravy-run.statement M
   -- the same file. A list of acts that begins with any record and memories; those that an act would be refused for are refused

@@ -17,7 +17,7 @@ use Rattle.ledger.specs.State.{Step}
 use Rattle.run.specs.Claim.{Input, ourChip, worldAfter, stepsOf}
 use Rattle.text.specs.Bytes.{newline}
 use Rattle.lines.specs.declared.Request.{Request}
-use Rattle.answers.specs.Answer.{Setup, noPart, refusedLine, requestAnswer, lineAnswer, answerText}
+use Rattle.answers.specs.Answer.{Setup, noPart, misplaced, requestAnswer, lineAnswer, answerText}
 use Rattle.answers.proofs.AnswerLaws.{ready-suits}
 use Rattle.tape.specs.Tape.{linesFrom, answersTo}
 use Rattle.feeding.specs.Told.{stepsTold}
@@ -73,9 +73,9 @@ pub chip-answers : ChipAnswers
 unfolding ChipAnswers lineAnswer
 chip-answers s f line =
     record {
-      part-line = λ arg e. ap (λ (r : Request). requestAnswer r s) e ∙ sym (no _ (refusedLine 7 s) f);
-      act-line = λ act arg e. ap (λ (r : Request). requestAnswer r s) e ∙ sym (no (refusedLine 7 s) _ f);
-      bad-line = λ e. ap (λ (r : Request). requestAnswer r s) e;
+      part-line = λ arg e. ap (λ (r : Request). requestAnswer r s) e ∙ sym (no _ (misplaced s) f);
+      act-line = λ act arg e. ap (λ (r : Request). requestAnswer r s) e ∙ sym (no (misplaced s) _ f);
+      bad-line = λ number column e. ap (λ (r : Request). requestAnswer r s) e;
     }
 
 pub tape-runs : TapeRuns

@@ -25,7 +25,7 @@ use Rattle.lines.specs.declared.Out.{Out}
 use Rattle.lines.specs.declared.Out.the-variants.{Value, Z}
 use Rattle.lines.specs.Print.{outOf}
 use Rattle.lines.specs.Read.{shownOr}
-use Rattle.answers.specs.Answer.{Setup, setup, LineAnswer, refusedLine, outcomeAnswer, freshSetup, requestAnswer, lineAnswer}
+use Rattle.answers.specs.Answer.{Setup, setup, LineAnswer, misplaced, outcomeAnswer, freshSetup, requestAnswer, lineAnswer}
 use Rattle.tape.specs.Tape.{linesFrom, tapeAnswers, emptySetup}
 use Rattle.feeding.specs.Told.{Told, tells, lineTold, stepsTold, partTold, linesTold}
 use Rattle.feeding.specs.Steps.{setupAfter, toldBy, AccountsFor, BytesAccounted}
@@ -36,7 +36,7 @@ use Rattle.feeding.proofs.ToldLaws.{charsOf, chars-out, answerLines, an
 abbrev pub inputOf : Request → List Input
 inputOf (PartLine arg) = []
 inputOf (ActLine act arg) = record { act = act; arg = arg } ∷ []
-inputOf Bad = []
+inputOf (Bad number column) = []
 
 unfoldable pub actsOf : List (List ℕ) → List Input
 actsOf [] = []
@@ -64,21 +64,21 @@ printed part (Set p) arg w = refl
 module _ (part : ℕ) (some : eqb part 0 ≡ false) where
   line-setup : (r : Request) (w : World) → requestAnswer r (setup part w) .after ≡ setup part (worldAfter ourChip part (inputOf r) w)
   unfolding worldAfter ourChip
-  line-setup (PartLine arg) w = ap (λ (a : LineAnswer). a .after) (sym (no _ (refusedLine 7 (setup part w)) some))
+  line-setup (PartLine arg) w = ap (λ (a : LineAnswer). a .after) (sym (no _ (misplaced (setup part w)) some))
   line-setup (ActLine act arg) w =
-      ap (λ (x : LineAnswer). x .after) (sym (no (refusedLine 7 (setup part w)) (outcomeAnswer part act (performed part act arg w)) some))
-  line-setup Bad w = refl
+      ap (λ (x : LineAnswer). x .after) (sym (no (misplaced (setup part w)) (outcomeAnswer part act (performed part act arg w)) some))
+  line-setup (Bad number column) w = refl
 
   line-steps : (r : Request) (w : World) → lineTold r (charsOf (requestAnswer r (setup part w))) ≡ stepsOf ourChip part (inputOf r) w
   unfolding stepsOf ourChip
   line-steps (PartLine arg) w = refl
   line-steps (ActLine act arg) w =
       let a = outcomeAnswer part act (performed part act arg w) in
-      ap (λ (x : LineAnswer). lineTold (ActLine act arg) (charsOf x)) (sym (no (refusedLine 7 (setup part w)) a some))
+      ap (λ (x : LineAnswer). lineTold (ActLine act arg) (charsOf x)) (sym (no (misplaced (setup part w)) a some))
       ∙ ap (λ (o : Out). told act arg (usedBy act (shownOr 0 o))) (chars-out a)
       ∙ ap (told act arg) (printed part act arg w)
       ∙ sym (append-nil (told act arg (usedBy act (performed part act arg w .count))))
-  line-steps Bad w = refl
+  line-steps (Bad number column) w = refl
 
   -- and so do lines
   pub lines-setup : (lines : List (List ℕ)) (w : World) → setupAfter (setup part w) lines ≡ setup part (worldAfter ourChip part (actsOf lines) w)
@@ -132,7 +132,7 @@ line-owes (PartLine n) lines w h =
     (λ p. subst (λ (t : Told). AccountsFor t (setupAfter (freshSetup n) lines)) (yes _ _ p) (fresh-owes n p lines))
     (λ p. subst (λ (t : Told). AccountsFor t (setupAfter (setup 0 w) lines)) (no _ _ p) h)
 line-owes (ActLine act arg) lines w h = h
-line-owes Bad lines w h = h
+line-owes (Bad number column) lines w h = h
 
 tape-owes : (lines : List (List ℕ)) (w : World) → Owed lines (setup 0 w)
 unfolding setupAfter linesTold answerLines lineAnswer

@@ -24,13 +24,13 @@ use Rattle.ends.specs.Write.{carried, cycleAfter, welAfter}
 use Rattle.acts.specs.Act.{performed}
 use Rattle.text.specs.Bytes.{agreed, leading, chosen}
 use Rattle.text.specs.Decimal.{valueFrom, textWithin, decimalText}
-use Rattle.lines.specs.Line.{nameSize, digitsText, inForm, nameOf}
-use Rattle.lines.specs.Request.{badLine, requestOf}
+use Rattle.lines.specs.Line.{nameSize, digitsText, inForm, formReach, nameOf, numberColumn}
+use Rattle.lines.specs.Request.{requestOf}
 use Rattle.lines.specs.Print.{fieldsText, answerChars, answerLine}
 use Rattle.answers.specs.Answer.{lineAnswer, answerText}
 use Rattle.tape.specs.Tape.{linesFrom, answersTo, tapeAnswers}
 use Rattle.feeding.specs.WholeCase.{WholeCase}
 
 pub whole-case : WholeCase
-unfolding WholeCase tapeAnswers linesFrom answersTo lineAnswer answerText fieldsText answerChars answerLine badLine requestOf nameSize digitsText inForm nameOf chosen agreed leading valueFrom textWithin decimalText performed refusalOf outOfRange clockOut frameOut cycleOut powerOut eventsOut windowOut debounceOut bitOutside every fresh afterSelect afterByte nextReply leftoverReply readClock afterWrite writeClock afterEnd carried cycleAfter welAfter waitedBy tick cycleTick cycleDevice clockwork changed flagsChanged irqLow pullsIrq wdoLow oscillatorTick watchdogTick eventTick eventsTick calendarTick storeUnder
+unfolding WholeCase tapeAnswers linesFrom answersTo lineAnswer answerText fieldsText answerChars answerLine requestOf nameSize digitsText inForm formReach nameOf numberColumn chosen agreed leading valueFrom textWithin decimalText performed refusalOf outOfRange clockOut frameOut cycleOut powerOut eventsOut windowOut debounceOut bitOutside every fresh afterSelect afterByte nextReply leftoverReply readClock afterWrite writeClock afterEnd carried cycleAfter welAfter waitedBy tick cycleTick cycleDevice clockwork changed flagsChanged irqLow pullsIrq wdoLow oscillatorTick watchdogTick eventTick eventsTick calendarTick storeUnder
 whole-case = (refl, refl, refl, refl, refl)

@@ -18,7 +18,7 @@ use Rattle.lines.specs.declared.Request.the-variants.{PartLine, ActLine, Bad}
 use Rattle.lines.specs.Request.{requestOf}
 use Rattle.text.specs.Bytes.{newline}
 use Rattle.lines.specs.Print.{answerRoom}
-use Rattle.answers.specs.Answer.{Setup, setup, LineAnswer, refusedLine, requestAnswer, lineAnswer, answerText}
+use Rattle.answers.specs.Answer.{Setup, setup, LineAnswer, refusedLine, faultyLine, misplaced, requestAnswer, lineAnswer, answerText}
 use Rattle.tape.specs.Tape.{lastLine, linesFrom, answersTo, tapeAnswers, FedByLines, emptySetup, State, state, head, Fed, fedTo, fedByte, ahead, fed, finished, answersFrom, takenWithin}
 use Rattle.feeding.specs.Steps.{setupAfter}
 use Rattle.tape.proofs.TapeLaws.{ahead-join, head-join, head-answers}
@@ -74,8 +74,8 @@ unfolding answerText
 before-part (PartLine arg) lines v w e =
     let t : LineAnswer → List ℕ = λ a. answerText a ++ answersTo (a .after) lines in
     pick-both (λ (x y : LineAnswer). t x ≡ t y) (isPart arg) refl (ap (λ (l : List ℕ). answerText (refusedLine 3 (setup 0 v)) ++ l) e)
-before-part (ActLine act arg) lines v w e = ap (λ (l : List ℕ). answerText (refusedLine 7 (setup 0 v)) ++ l) e
-before-part Bad lines v w e = ap (λ (l : List ℕ). answerText (refusedLine 7 (setup 0 v)) ++ l) e
+before-part (ActLine act arg) lines v w e = ap (λ (l : List ℕ). answerText (misplaced (setup 0 v)) ++ l) e
+before-part (Bad number column) lines v w e = ap (λ (l : List ℕ). answerText (faultyLine number column (setup 0 v)) ++ l) e
 
 pub before-any : (lines : List (List ℕ)) (v w : World) → answersTo (setup 0 v) lines ≡ answersTo (setup 0 w) lines
 unfolding answersTo lineAnswer

@@ -16,7 +16,7 @@ use Rattle.run.specs.Claim.{Input, ourChip, worldAfter, stepsOf}
 use Rattle.text.specs.Bytes.{newline}
 use Rattle.lines.specs.declared.Request.the-variants.{PartLine, ActLine, Bad}
 use Rattle.lines.specs.Request.{requestOf}
-use Rattle.answers.specs.Answer.{Setup, setup, noPart, refusedLine, outcomeAnswer, lineAnswer, eepromBytes, idBytes, ready}
+use Rattle.answers.specs.Answer.{Setup, setup, noPart, faultyLine, misplaced, outcomeAnswer, lineAnswer, eepromBytes, idBytes, ready}
 use Rattle.tape.specs.Tape.{linesFrom, answersTo, state, fed, Loan, loan, stateIn, isTape, resumes, resumedTape, Typed}
 use Rattle.feeding.specs.Told.{stepsTold}
 use Rattle.feeding.specs.Steps.{setupAfter}
@@ -48,13 +48,13 @@ ResumesWith =
     (part : ℕ) (d : Device) (line ee id : List ℕ) → Typed d ee id → length line ≡ 65 → resumes part d (length ee) (length id) ≡ true
     → HasFed (setup part (world d (take (sizeOf part) ee) (take idSize id))) (loan (resumedTape part d (length ee) (length id)) line ee id) []
 
--- R21. On a chip that is there a line that names a part is refused by 7, and so is a bad one; a line that names an act shows and leaves what that act does to
--- the chip.
+-- R21. On a chip that is there a line that names a part is out of its place, and a bad one is refused with its number and column; a line that names an act
+-- shows and leaves what that act does to the chip.
 pub record AnsweredByChip (s : Setup) (line : List ℕ) : Type 0 where
-  pub part-line : (arg : ℕ) → requestOf line ≡ PartLine arg → lineAnswer line s ≡ refusedLine 7 s
+  pub part-line : (arg : ℕ) → requestOf line ≡ PartLine arg → lineAnswer line s ≡ misplaced s
   pub act-line :
       (act : Act) (arg : ℕ) → requestOf line ≡ ActLine act arg → lineAnswer line s ≡ outcomeAnswer (s .part) act (performed (s .part) act arg (s .chip))
-  pub bad-line : requestOf line ≡ Bad → lineAnswer line s ≡ refusedLine 7 s
+  pub bad-line : (number column : ℕ) → requestOf line ≡ Bad number column → lineAnswer line s ≡ faultyLine number column s
 
 unfoldable pub ChipAnswers : Type 0
 ChipAnswers = (s : Setup) → noPart s ≡ false → (line : List ℕ) → AnsweredByChip s line

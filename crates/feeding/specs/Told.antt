@@ -27,7 +27,7 @@ tells part steps = record { part = part; steps = steps }
 abbrev pub lineTold : Request → List ℕ → List Step
 lineTold (PartLine arg) answer = []
 lineTold (ActLine act arg) answer = told act arg (usedBy act (shownOr 0 (outRead answer)))
-lineTold Bad answer = []
+lineTold (Bad number column) answer = []
 
 unfoldable pub stepsTold : List (List ℕ) → List (List ℕ) → List Step
 stepsTold [] answers = []
@@ -38,7 +38,7 @@ stepsTold (line ∷ lines) (answer ∷ answers) = lineTold (requestOf line) answ
 abbrev pub partTold : Request → List Step → Told → Told
 partTold (PartLine n) steps later = pick (leb 1 n && leb n 4) (tells n steps) later
 partTold (ActLine act arg) steps later = later
-partTold Bad steps later = later
+partTold (Bad number column) steps later = later
 
 -- L1. what lines with their answers tell
 unfoldable pub linesTold : List (List ℕ) → List (List ℕ) → Told

@@ -29,14 +29,17 @@ wholeCase =
     ∷ ("op=end arg=0", "no=0 out=z irq=1 wdo=1")
     ∷ []
 
--- T6, T7, T9. Before there is a part both levels show 1, whatever is asked; a part that is none leaves it so; a second part is refused.
+-- T6, T7, T9, T16. Before there is a part both levels show 1, whatever is asked, and a line that is bad by itself is told so; a part that is none leaves it so; a
+-- second part is refused.
 abbrev pub partCase : List (String × String)
 partCase =
-    ("op=select arg=0", "no=7 out=z irq=1 wdo=1")
+    ("op=select arg=0", "no=74 out=0 irq=1 wdo=1")
     ∷ ("op=part arg=5", "no=3 out=z irq=1 wdo=1")
-    ∷ ("op=up", "no=7 out=z irq=1 wdo=1")
+    ∷ ("op=up", "no=72 out=6 irq=1 wdo=1")
+    ∷ ("op=up arg=00", "no=75 out=11 irq=1 wdo=1")
+    ∷ ("op=down arg=00", "no=73 out=4 irq=1 wdo=1")
     ∷ ("op=part arg=4", "no=0 out=z irq=1 wdo=1")
-    ∷ ("op=part arg=4", "no=7 out=z irq=1 wdo=1")
+    ∷ ("op=part arg=4", "no=74 out=0 irq=1 wdo=1")
     ∷ ("op=up arg=0", "no=5 out=z irq=1 wdo=1")
     ∷ []
 
@@ -60,7 +63,7 @@ levelCase =
     ∷ ("op=byte arg=15", "no=0 out=z irq=0 wdo=1")
     ∷ ("op=byte arg=136", "no=0 out=z irq=1 wdo=0")
     ∷ ("op=end arg=0", "no=0 out=z irq=1 wdo=0")
-    ∷ ("op=part arg=3", "no=7 out=z irq=1 wdo=0")
+    ∷ ("op=part arg=3", "no=74 out=0 irq=1 wdo=0")
     ∷ ("op=select arg=0", "no=0 out=z irq=1 wdo=0")
     ∷ ("op=byte arg=18", "no=0 out=z irq=1 wdo=0")
     ∷ ("op=byte arg=15", "no=0 out=z irq=1 wdo=0")

@@ -1,3 +1,4 @@
+pub mod FormLaws
 pub mod LineLaws
 pub mod PrintLaws
 pub mod ReadLaws

@@ -47,8 +47,8 @@ five-length a b c d e =
 level-most : (high : Bool) → length (outText (levelOut high)) ≤ 1
 level-most high = decimal-places 0 (flag high) (omega (arith, flag-below high))
 
--- an answer's line has room, where its number has one digit and what it shows no more bytes than a number of 64 bits
+-- an answer's line has room, where its number has two digits at most and what it shows no more bytes than a number of 64 bits
 pub answer-most :
-    (number : ℕ) (out : Out) (irq wdo : Bool) → number < 10 → length (outText out) ≤ outRoom → length (answerLine number out irq wdo) ≤ answerRoom
+    (number : ℕ) (out : Out) (irq wdo : Bool) → number < 100 → length (outText out) ≤ outRoom → length (answerLine number out irq wdo) ≤ answerRoom
 unfolding answerLine answerChars fieldsText
-answer-most number out irq wdo n o = rw (answerLine, five-length) (omega (arith, decimal-places 0 number n, level-most irq, level-most wdo))
+answer-most number out irq wdo n o = rw (answerLine, five-length) (omega (arith, decimal-places 1 number n, level-most irq, level-most wdo))

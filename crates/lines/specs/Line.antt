@@ -1,7 +1,7 @@
 -- A line of a tape, without its newline: its pieces, its form, and the names. Every byte of it is a character.
 -- What a line asks for is not said here: that is Request.
 -- Assumes nothing.
-use Prim.Native.Nat.{ℕ}
+use Prim.Native.Nat.{ℕ, suc, _+_}
 use Prim.Native.String.{String}
 use mathlib.Core.Bool.{Bool, _&&_, _||_}
 use mathlib.Core.List.{List, [], _∷_}
@@ -9,7 +9,8 @@ use lib.Dec.{ltb, eqb}
 use lib.ListN.{length, take, drop}
 use Rattle.record.specs.declared.Act.the-variants.{Select, Byte, End, Wait, Cut, Up, Set}
 use Rattle.record.specs.declared.Pin.the-variants.{Evls, Evhs}
-use Rattle.text.specs.Bytes.{bytesOf, begins, leading, letter, digit, chosen}
+use Rattle.base.specs.Words.{pick}
+use Rattle.text.specs.Bytes.{bytesOf, agreed, begins, leading, letter, digit, chosen}
 use Rattle.text.specs.Decimal.{needlessZero}
 use Rattle.lines.specs.declared.Name.{Name}
 use Rattle.lines.specs.declared.Name.the-variants.{PartName, ActName, Unknown}
@@ -53,6 +54,17 @@ inForm line =
     && ltb 0 (length (digitsText line))
     && eqb (leading digit (digitsText line)) (length (digitsText line))
 
+-- How far a text goes along with a word and then with what follows, and with bytes of a kind, one at least, and then with what follows.
+abbrev pub pastWord : List ℕ → (List ℕ → ℕ) → List ℕ → ℕ
+pastWord word next s = pick (begins word s) (length word + next (drop (length word) s)) (agreed word s)
+
+abbrev pub pastSome : (ℕ → Bool) → (List ℕ → ℕ) → List ℕ → ℕ
+pastSome kind next s = pick (ltb 0 (leading kind s)) (leading kind s + next (drop (leading kind s) s)) 0
+
+-- T13. How far a line goes along with the form. That it is the longest beginning that some line of the form has is proved.
+unfoldable pub formReach : List ℕ → ℕ
+formReach line = pastWord opText (pastSome letter (pastWord argText (leading digit))) line
+
 -- T4, V1. A name is `part` or that of an act.
 abbrev pub names : List (String × Name)
 names =
@@ -79,3 +91,20 @@ tooManyDigits s = ltb digitLimit (length s)
 
 abbrev pub badDigits : List ℕ → Bool
 badDigits s = needlessZero s || tooManyDigits s
+
+-- T12 to T15. The columns, from 1, at which a line is bad: the first past the limit; the one at which it leaves the form; the name's first; and of
+-- the number the first digit, if that is a needless zero, else the first too many.
+abbrev pub longColumn : ℕ
+longColumn = suc lineLimit
+
+abbrev pub formColumn : List ℕ → ℕ
+formColumn line = suc (formReach line)
+
+abbrev pub nameColumn : ℕ
+nameColumn = suc (length opText)
+
+abbrev pub digitColumn : List ℕ → ℕ
+digitColumn line = suc (length opText + nameSize line + length argText)
+
+unfoldable pub numberColumn : List ℕ → ℕ
+numberColumn line = pick (needlessZero (digitsText line)) (digitColumn line) (digitColumn line + digitLimit)

@@ -63,7 +63,7 @@ shownOr other Z = other
 abbrev pub highShown : Out → Bool
 highShown out = eqb (shownOr 0 out) 1
 
--- T8. An answer's number. Where none is shown it is 7, that of a bad line, so that a text that is no answer is not read as done.
+-- T8. An answer's number. Where none is shown it is 7, which no answer has (D207), so that a text that is no answer is not read as done.
 unfoldable pub numberRead : List ℕ → ℕ
 numberRead line = shownOr 7 (noField line .shown)
 

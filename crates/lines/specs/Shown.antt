@@ -12,8 +12,8 @@ use Rattle.text.specs.Decimal.{valueFrom, textWithin, decimalText}
 use Rattle.lines.specs.declared.Request.{Request}
 use Rattle.lines.specs.declared.Request.the-variants.{PartLine, ActLine, Bad}
 use Rattle.lines.specs.declared.Out.the-variants.{Value, Z}
-use Rattle.lines.specs.Line.{nameSize, digitsText, inForm, nameOf}
-use Rattle.lines.specs.Request.{badLine, requestOf}
+use Rattle.lines.specs.Line.{nameSize, digitsText, inForm, formReach, nameOf, numberColumn}
+use Rattle.lines.specs.Request.{requestOf}
 use Rattle.lines.specs.Print.{outOf, fieldsText, answerChars, answerLine}
 
 -- a line asks for this
@@ -32,22 +32,38 @@ LinesShown =
     × Asks "op=up arg=0" (ActLine Up 0)
     × Asks "op=evls arg=1" (ActLine (Set Evls) 1)
     × Asks "op=evhs arg=2" (ActLine (Set Evhs) 2)
-    × Asks "op=ups arg=0" Bad
-    -- T2. eight digits and nine, a 0 alone and in front
+    × Asks "op=ups arg=0" (Bad 73 4)
+    -- T2, T15. eight digits and nine, a 0 alone and in front, and in front of too many
     × Asks "op=wait arg=16777217" (ActLine Wait 16777217)
-    × Asks "op=wait arg=123456789" Bad
+    × Asks "op=wait arg=123456789" (Bad 75 21)
     × Asks "op=byte arg=0" (ActLine Byte 0)
-    × Asks "op=byte arg=07" Bad
-    -- T1. what is not of the form: nothing, no name, no number, two blanks, more after the number, a capital
-    × Asks "" Bad
-    × Asks "op= arg=0" Bad
-    × Asks "op=up arg=" Bad
-    × Asks "op=up  arg=0" Bad
-    × Asks "op=up arg=0 " Bad
-    × Asks "op=Up arg=0" Bad
+    × Asks "op=byte arg=07" (Bad 75 13)
+    × Asks "op=up arg=0123456789" (Bad 75 11)
+    -- T1, T13. what is not of the form: nothing, the beginnings of a line, no name, two blanks, more after the number, a capital
+    × Asks "" (Bad 72 1)
+    × Asks "o" (Bad 72 2)
+    × Asks "op=" (Bad 72 4)
+    × Asks "op=u" (Bad 72 5)
+    × Asks "op=up" (Bad 72 6)
+    × Asks "op=up arg" (Bad 72 10)
+    × Asks "op=up arg=" (Bad 72 11)
+    × Asks "op= arg=0" (Bad 72 4)
+    × Asks "op=up  arg=0" (Bad 72 7)
+    × Asks "op=up arg=0 " (Bad 72 12)
+    × Asks "op=Up arg=0" (Bad 72 4)
+    × Asks "po=up arg=0" (Bad 72 1)
+    -- T16. the form before the name, the name before the digits
+    × Asks "op=foo arg" (Bad 72 11)
+    × Asks "op=foo arg=007" (Bad 73 4)
+    -- T3, T12. 64 bytes and 65, of the form or not
+    × Asks "op=abcdefghijklmnopqrstuvwxyzabcdefghijklmnopqrstuvwxyzabcd arg=" (Bad 72 65)
+    × Asks "op=abcdefghijklmnopqrstuvwxyzabcdefghijklmnopqrstuvwxyzabc arg=1" (Bad 73 4)
+    × Asks "op=abcdefghijklmnopqrstuvwxyzabcdefghijklmnopqrstuvwxyzabcd arg=1" (Bad 71 65)
+    × Asks "#                                                                " (Bad 71 65)
     -- T8. an answer's text: a number, none, and the two levels
     × (answerLine 0 (Value 164) true false ≡ bytesOf "no=0 out=164 irq=1 wdo=0\n")
-    × (answerLine 7 Z false true ≡ bytesOf "no=7 out=z irq=0 wdo=1\n")
+    × (answerLine 3 Z false true ≡ bytesOf "no=3 out=z irq=0 wdo=1\n")
+    × (answerLine 72 (Value 6) true true ≡ bytesOf "no=72 out=6 irq=1 wdo=1\n")
     -- T8, A6, A38. what it shows: a byte's reply, none where SO is off, a wait's and a cut's count, an end's bits, none where it is refused
     × (outOf 0 Byte (Driven 0) 0 ≡ Value 0)
     × (outOf 0 Byte Off 0 ≡ Z)
@@ -59,5 +75,5 @@ LinesShown =
     × (outOf 3 Wait Off 0 ≡ Z)
 
 pub lines-shown : LinesShown
-unfolding LinesShown requestOf badLine nameSize digitsText inForm nameOf chosen agreed leading valueFrom answerLine answerChars fieldsText decimalText textWithin
-lines-shown = (refl, refl, refl, refl, refl, refl, refl, refl, refl, refl, refl, refl, refl, refl, refl, refl, refl, refl, refl, refl, refl, refl, refl, refl, refl, refl, refl, refl, refl, refl)
+unfolding LinesShown requestOf nameSize digitsText inForm formReach nameOf numberColumn chosen agreed leading valueFrom answerLine answerChars fieldsText decimalText textWithin
+lines-shown = (refl, refl, refl, refl, refl, refl, refl, refl, refl, refl, refl, refl, refl, refl, refl, refl, refl, refl, refl, refl, refl, refl, refl, refl, refl, refl, refl, refl, refl, refl, refl, refl, refl, refl, refl, refl, refl, refl, refl, refl, refl, refl, refl, refl)

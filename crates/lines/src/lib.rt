@@ -1,8 +1,6 @@
-// The lines of a tape: what a line asks for, and the text of an answer. It has the acts by name and knows nothing of what they do.
+// The lines of a tape: what a line asks for, and the text of an answer, as definitions and laws; their code is in codec. It has the acts by name and knows
+// nothing of what they do.
 use record::Act;
-
-pub mod line; // line.rt: a line's pieces, and what it asks for
-pub mod print; // print.rt: an answer's line
 
 // What the name of a line is: `part`, an act's, or no name.
 pub enum Name {
@@ -11,11 +9,11 @@ pub enum Name {
     Unknown,
 }
 
-// What a line asks for: a part, an act with its number, or nothing, being bad.
+// What a line asks for: a part, an act with its number, or nothing, being bad, with the number and the column of what is.
 pub enum Request {
     PartLine(u64),
     ActLine(Act, u64),
-    Bad,
+    Bad(u8, u64),
 }
 
 // What an answer shows: a number, or z for none.

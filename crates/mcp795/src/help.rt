@@ -85,9 +85,11 @@ Each line gives one answer, written before the program waits for more input:
 
     no=R out=V irq=L wdo=L
 
-    R  0: done; 1 to 7: refused, and nothing has changed
+    R  0: done; 1 to 6: the act is refused, 71 to 75: the line is bad, and
+       nothing has changed
     V  a byte's reply; an end's bits as a number, most significant first;
-       the ticks that a wait used; how many bytes a cut stored; z: none
+       the ticks that a wait used; how many bytes a cut stored; for a bad line
+       the column that is to blame, from 1, or 0; z: none
     L  the level of the line after the act, 0 or 1
 ",
     )
@@ -104,10 +106,22 @@ fn print_refusals() -> bool {
     4  a memory has not the part's length (no tape causes it)
     5  there is no power for select, byte, end or cut; or there is, and it is up
     6  the chip's record is out of range (no tape causes it)
-    7  the line is not of the form, comes before a part, or names a part again
+   71  the line is longer than 64 characters; V is 65
+           op=byte arg=6 # the enable, without which the write stores nothing
+   72  it is not op= with a name in letters a to z, a single space, and arg= with
+       a number in digits; V is the first column where no such line can go on
+           op=up                  V is 6, one past its end: it stops short
+   73  there is no such act; V is 4
+           op=foo arg=1
+   74  an act comes before the part, or a part again; V is 0
+           op=select arg=0        as the first line
+   75  N has a needless zero, and V is the column of its first digit; or N has
+       more than 8 digits, and V is the column of the ninth
+           op=byte arg=07         V is 13
+           op=wait arg=123456789  V is 21
 
-Of several reasons the first in this order is given: 7, 3 for the part, 4, 6, 3,
-5, then 1 or 2.
+Of several reasons the first in this order is given: 71, 72, 73, 75, 74, 3 for
+the part, 4, 6, 3, 5, then 1 or 2.
 ",
     )
 }

@@ -14,7 +14,7 @@ ghost use Rattle.mcp795.specs.Reading.{IsFed, FeedsAll, Ends, FeedsRead,
 // Bytes that are read at once; and room for the answers to all of them, were each a line of its own.
 const INPUT_ROOM: usize = 4096;
 
-const OUT_ROOM: usize = INPUT_ROOM * lines::print::ANSWER_ROOM;
+const OUT_ROOM: usize = INPUT_ROOM * codec::print::ANSWER_ROOM;
 
 // A tape between two reads: how far it has come, how many bytes of answers the last read put out, whether to read on, whether it was read and answered to
 // its end, and whether standard output takes answers.

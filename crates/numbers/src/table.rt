@@ -1,5 +1,5 @@
 // The table of the saved form: of each row its lines and widths, and whether a number is good at a place, by those before it.
-use events::control;
+use detect::control;
 use record::ClockAddress;
 use record::part;
 use record::registers;

@@ -12,7 +12,7 @@ fn door_at(level: u8, d: Device) -> Device
 {
     let counted = registers::is_oscon(d.counters);
     let before = inputs::inputs_of(d);
-    let after = events::pins::door_set(counted, level, before);
+    let after = detect::pins::door_set(counted, level, before);
     inputs::with_inputs(d, after)
 }
 
@@ -22,7 +22,7 @@ fn drum_at(level: u8, d: Device) -> Device
 {
     let counted = registers::is_oscon(d.counters);
     let before = inputs::inputs_of(d);
-    let after = events::pins::drum_set(counted, level, before);
+    let after = detect::pins::drum_set(counted, level, before);
     inputs::with_inputs(d, after)
 }
 
@@ -34,7 +34,7 @@ pub fn after_set(pin: Pin, level: u8, d: Device) -> Device
         Pin::Evls => door_at(level, d),
         Pin::Evhs => {
             let before = inputs::inputs_of(d);
-            let kicks = events::pins::zeroes_watchdog(level, before);
+            let kicks = detect::pins::zeroes_watchdog(level, before);
             let after = drum_at(level, d);
             if kicks {
                 let mut next = after;

@@ -61,7 +61,7 @@ fn forgotten_clock(d: Device) -> Device
     let regs = record::fresh_regs();
     let counters = record::fresh_counters();
     let sram = [0u8; 64];
-    let events = events::pins::no_counts(d.events);
+    let events = detect::pins::no_counts(d.events);
     let mut next = d;
     next.regs = regs;
     next.sram = sram;

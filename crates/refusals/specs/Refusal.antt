@@ -1,4 +1,4 @@
--- A33. The refusal table as the chain that decides: 3 for the part, 4, 6, 3 for the argument, 5, then 1 or 2. Number 7 is the tape's and comes before.
+-- A33. The refusal table as the chain that decides: 3 for the part, 4, 6, 3 for the argument, 5, then 1 or 2. The numbers of a bad line are the tape's and come before.
 -- The rows in words of their own, apart from this chain, stand in Rows.
 -- Assumes nothing.
 use Prim.Native.Nat.{ℕ}

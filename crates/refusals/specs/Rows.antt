@@ -1,6 +1,6 @@
 -- The refusal table's rows as propositions, in words of their own and apart from the chain that decides (Refusal, Range). That the chain answers by
 -- this table is proved in TableLaws. The limits stand here as numbers, on purpose: a change of a limit alone is refused here.
--- Not number 7, which is the tape's.
+-- Not the numbers of a bad line, 71 to 75, which are the tape's.
 -- Assumes nothing.
 use Prim.Native.Nat.{ℕ, _<_, _≤_}
 use mathlib.Core.Path.{_≡_}
@@ -118,7 +118,7 @@ pub record Row : Type 1 where
   pub number : ℕ
   pub holds : Type 0
 
--- A33. The order of the rows, 7 of the tape before them.
+-- A33. The order of the rows, those of a bad line before them.
 abbrev pub table : ℕ → Act → ℕ → Device → ℕ → ℕ → List Row
 table part act n d ee id =
     record { number = 3; holds = PartRow part }

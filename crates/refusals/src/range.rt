@@ -100,5 +100,5 @@ pub fn out_of_range(part: u64, d: Device) -> bool
         | frame_out(size, stage, load)
         | cycle_out(size, cycle)
         | power_out(d.power, d.mark, stage, cycle)
-        | events::range::events_out(regs[EVENT], events)
+        | detect::range::events_out(regs[EVENT], events)
 }

@@ -76,7 +76,7 @@ fn after_write(boots: bool, vbat: bool, at: ClockAddress, d: Device) -> Device
         return next;
     }
     if a == EVENT {
-        let events = events::pins::no_counts(d.events);
+        let events = detect::pins::no_counts(d.events);
         let mut next = d;
         next.events = events;
         return next;

@@ -79,7 +79,7 @@ refusal-agrees s part w l act n p a =
     ap (λ (k : ℕ). eqb k 0) (shortened s part w l act n p a)
     ∙ rw (← a .state .power, ← a .state .chosen) (same-refusal act n l)
 
--- no act of a run is answered 4 or 6: 7 is the tape's own
+-- no act of a run is answered 4 or 6; 7 is no act's number
 last-small : (act : Act) (sel : Bool) (P : ℕ → Type 0) → P 0 → P 1 → P 2 → P (wrongSelect act sel)
 last-small Select sel P p q r = pick-case P sel q p
 last-small Byte sel P p q r = pick-case P sel p r

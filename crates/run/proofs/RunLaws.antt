@@ -13,7 +13,7 @@ use Rattle.refusals.specs.InRange.{InRange}
 use Rattle.record.specs.World.{World, freshWorld}
 use Rattle.acts.specs.Act.{performed}
 use Rattle.acts.proofs.ValidLaws.{Valid}
-use Rattle.acts.proofs.OutcomeLaws.{answered-by-table}
+use Rattle.acts.proofs.OutcomeLaws.{answered-by-table, never-seven}
 use Rattle.ledger.specs.State.{Step, start}
 use Rattle.ledger.specs.Steps.{ledgerRun}
 use Rattle.run.specs.Claim.{Input, Chip, ourChip, worldAfter, stepsOf, told, reached}
@@ -55,11 +55,11 @@ not-answered :
 not-answered part p xs act n k out e =
     never (freshWorld part) part (reached part xs) _ act n k p (reached-agrees part p xs) out (sym (answered-by-table part act n (reached part xs)) ∙ e)
 
--- no act of a run is ever answered 4, 6 or 7
+-- no act of a run is ever answered 4, 6 or a bad line's number
 pub never-answered : (part : ℕ) → isPart part ≡ true → (xs : List Input) (act : Act) (n : ℕ) → NeverAnswered part xs act n
 never-answered part p xs act n =
     record {
       four = not-answered part p xs act n 4 refl;
       six = not-answered part p xs act n 6 refl;
-      seven = not-answered part p xs act n 7 refl;
+      above = never-seven part act n (reached part xs);
     }

@@ -53,8 +53,8 @@ ChangesOnly =
     → getD (memoryOf m (performed part act arg w .after)) p 0 ≢ getD (memoryOf m w) p 0
     → EndedOver m act (performed part act arg w .count) w p ⊎ CutOver m act arg w p
 
--- R4. No act of a run is answered 4, 6 or 7.
+-- R4. No act of a run is answered 4, 6 or a bad line's number.
 pub record NeverAnswered (part : ℕ) (xs : List Input) (act : Act) (arg : ℕ) : Type 0 where
   pub four : performed part act arg (reached part xs) .number ≢ 4
   pub six : performed part act arg (reached part xs) .number ≢ 6
-  pub seven : performed part act arg (reached part xs) .number ≢ 7
+  pub above : performed part act arg (reached part xs) .number < 7

@@ -337,7 +337,7 @@ line-before (ActLine act arg) s r p =
     let one = step-before (s .part) act arg (s .chip) (k .0) (k .1) (p .0) (p .1) in
     rw f
     (ap (outcomeAnswer (s .part) act) (one .0), record { known = λ h. (performed-valid (s .part) act arg (s .chip) (k .0), one .1) }))
-line-before Bad s r p = (refl, r)
+line-before (Bad number column) s r p = (refl, r)
 
 lines-before : (lines : List (List ℕ)) (s : Setup) → Ready s → PlainLines lines s → printedBy today lines s ≡ printedBy before lines s
 unfolding printedBy PlainLines
@@ -354,7 +354,7 @@ printed-today : (q : Request) (s : Setup) → textBy today (answerBy today q s) 
 unfolding answerText
 printed-today (PartLine arg) s = refl
 printed-today (ActLine act arg) s = refl
-printed-today Bad s = refl
+printed-today (Bad number column) s = refl
 
 -- V17. The promise.
 pub as-before : AsBefore

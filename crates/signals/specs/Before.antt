@@ -45,7 +45,7 @@ use Rattle.lines.specs.declared.Request.{Request}
 use Rattle.lines.specs.declared.Request.the-variants.{PartLine, ActLine, Bad}
 use Rattle.lines.specs.Request.{requestOf}
 use Rattle.lines.specs.Print.{answerLine}
-use Rattle.answers.specs.Answer.{Setup, setup, noPart, LineAnswer, refusedLine, partAnswer, outcomeAnswer, requestAnswer, levelHigh, answerText}
+use Rattle.answers.specs.Answer.{Setup, setup, noPart, LineAnswer, faultyLine, misplaced, partAnswer, outcomeAnswer, requestAnswer, levelHigh, answerText}
 use Rattle.signals.specs.Claim.{toEvent}
 
 -- a tick has no part of the event inputs
@@ -208,8 +208,8 @@ NoFlags part (x ∷ xs) w = NoFlag part (x .act) (x .arg) w × NoFlags part xs (
 -- Of a tape. What a line asks for is answered by a make of the chip: today's answers (Answer), with the make's acts and its IRQ.
 abbrev pub answerBy : Make → Request → Setup → LineAnswer
 answerBy m (PartLine arg) s = partAnswer arg s
-answerBy m (ActLine act arg) s = pick (noPart s) (refusedLine 7 s) (outcomeAnswer (s .part) act (m .does (s .part) act arg (s .chip)))
-answerBy m Bad s = refusedLine 7 s
+answerBy m (ActLine act arg) s = pick (noPart s) (misplaced s) (outcomeAnswer (s .part) act (m .does (s .part) act arg (s .chip)))
+answerBy m (Bad number column) s = faultyLine number column s
 
 abbrev pub textBy : Make → LineAnswer → List ℕ
 textBy m a =
@@ -227,7 +227,7 @@ printedBy m (line ∷ lines) s =
 abbrev pub PlainRequest : Request → Setup → Type 0
 PlainRequest (PartLine arg) s = Unit {0}
 PlainRequest (ActLine act arg) s = NoPin act × NoFlag (s .part) act arg (s .chip)
-PlainRequest Bad s = Unit {0}
+PlainRequest (Bad number column) s = Unit {0}
 
 unfoldable pub PlainLines : List (List ℕ) → Setup → Type 0
 PlainLines [] s = Unit {0}

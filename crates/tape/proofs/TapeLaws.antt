@@ -22,11 +22,10 @@ use Rattle.text.specs.Buffer.{Buffer, buffer, append, roomIn}
 use Rattle.text.proofs.BytesLaws.{leading-first, leading-rest, leading-taken, leading-ends, leading-within}
 use Rattle.text.proofs.BufferLaws.{append-none, append-join, room-append}
 use Rattle.lines.specs.declared.Request.{Request}
-use Rattle.lines.specs.declared.Request.the-variants.{Bad}
 use Rattle.lines.specs.Line.{lineLimit}
 use Rattle.lines.specs.Request.{requestOf}
 use Rattle.lines.specs.Print.{answerRoom}
-use Rattle.lines.proofs.LineLaws.{long-bad}
+use Rattle.lines.proofs.LineLaws.{long-asks}
 use Rattle.answers.specs.Answer.{Setup, requestAnswer, lineAnswer, answerText, eepromRoom, Lent, ready, Held, setupIn}
 use Rattle.answers.proofs.HeldLaws.{Sound, sound-held, Onward, onward-start}
 use Rattle.tape.specs.Tape.{State, state, head, headLimit, Headed, Fed, fedTo, ended, fedByte, ahead, fed, finished, ChunksJoin, takenWithin, Taken, putInto, takenFrom, Loan, loan, heldIn, stateIn, lending, buffersFit, isTape, Given, gives}
@@ -57,14 +56,13 @@ head-join x y =
 
 -- where it is not the whole line, both are too long
 head-asks : (l : List ℕ) → requestOf (head l) ≡ requestOf l
-unfolding requestOf
 head-asks l =
     by-cases (leb (length l) headLimit)
     (λ e. ap requestOf (head-short l (leb-true (length l) headLimit e)))
     (λ e.
     let h : headLimit < length l = leb-false (length l) headLimit e in
     let k : lineLimit < length (head l) = simp length-take (omega arith) in
-    sym (yes Bad _ (long-bad (head l) (lt-ltb lineLimit (length (head l)) k))) ∙ yes Bad _ (long-bad l (lt-ltb lineLimit (length l) (omega arith))))
+    long-asks (head l) (lt-ltb lineLimit (length (head l)) k) ∙ sym (long-asks l (lt-ltb lineLimit (length l) (omega arith))))
 
 pub head-answers : (l : List ℕ) (s : Setup) → lineAnswer (head l) s ≡ lineAnswer l s
 unfolding lineAnswer

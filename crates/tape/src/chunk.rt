@@ -3,7 +3,7 @@
 use crate::Feed;
 use crate::Tape;
 use answers::Progress;
-use lines::print;
+use codec::print;
 use record::Device;
 use text::Kind;
 use text::buffer;
@@ -21,7 +21,7 @@ ghost use Rattle.answers.specs.Answer.{lineAnswer, Lent, ready, setupIn, heldBy
 ghost use Rattle.tape.specs.Tape.{head, Headed, finished, putInto, takenFrom, loan, stateIn, tapeWith, isTape, gives, feedInto, finishInto, givenBy, startTape, resumedTape, Typed};
 
 // T3. The head of a line: one character more than it may have tells that it is too long.
-pub const HEAD_LIMIT: usize = lines::line::LINE_LIMIT + 1;
+pub const HEAD_LIMIT: usize = codec::line::LINE_LIMIT + 1;
 
 // The bytes of the largest EEPROM, and those of the ID.
 pub const EEPROM_ROOM: usize = 256;

@@ -7,6 +7,6 @@ pub fn event_tick(counted: bool, d: Device) -> Device
     ensures { λ r. ⌜ r ≡ eventTick counted d ⌝ }
 {
     let before = record::inputs::inputs_of(d);
-    let after = events::tick::events_tick(counted, before);
+    let after = detect::tick::events_tick(counted, before);
     record::inputs::with_inputs(d, after)
 }

@@ -1,6 +1,6 @@
 // The output lines and WIP, as functions of the record.
-use events::control::EVHIF;
-use events::control::EVLIF;
+use detect::control::EVHIF;
+use detect::control::EVLIF;
 use record::Device;
 use record::registers::ALARM_0;
 use record::registers::ALARM_1;
@@ -22,7 +22,7 @@ pub fn irq_low(d: Device) -> bool
     let alarm1 = d.regs[ALARM_1];
     let flagged0 = (active / ALM_0 % 2 == 1) & (alarm0 / ALM_IF % 2 == 1);
     let flagged1 = (active / ALM_1 % 2 == 1) & (alarm1 / ALM_IF % 2 == 1);
-    let signalled = events::control::pulls_irq(d.regs[EVENT]);
+    let signalled = detect::control::pulls_irq(d.regs[EVENT]);
     (flagged0 & !(alarm0 / ALM_PIN % 2 == 1))
         | (flagged1 & !(alarm1 / ALM_PIN % 2 == 1))
         | signalled

@@ -108,7 +108,7 @@ pub fn quiet_ticks(boots: bool, limit: u64, d: Device) -> u64
     let v = divider_quiet(w, d);
     let counted = record::registers::is_oscon(c);
     let inputs = record::inputs::inputs_of(d);
-    events::jump::events_quiet(counted, v, inputs)
+    detect::jump::events_quiet(counted, v, inputs)
 }
 
 fn grown(go: bool, n: u64, k: u64) -> u64
@@ -130,7 +130,7 @@ fn events_jumped(k: u64, d: Device) -> Events
 {
     let counted = record::registers::is_oscon(d.counters);
     let before = record::inputs::inputs_of(d);
-    let after = events::jump::events_jump(counted, k, before);
+    let after = detect::jump::events_jump(counted, k, before);
     after.events
 }
 

@@ -25,10 +25,10 @@ returns-2 c =
 
 returns-3 : tie.Need-returns-3
 returns-3 c =
-    let m = c .before .before .before .before in
+    let m = c .before .before .before .before .before in
     let a = m .before .before .before .before .before .before .before .args in
-    asked-shown (a .line .now) (heldBy (a .p) (a .eeprom .now) (a .id .now)) (buffer (a .into .now) (a .p .at)) Bad
-    (sym (m .before .before .request .ensures) ∙ m .enum-told .given .1) (c .before .before .refused-line .ensures (a .eeprom .now) (a .id .now))
+    asked-shown (a .line .now) (heldBy (a .p) (a .eeprom .now) (a .id .now)) (buffer (a .into .now) (a .p .at)) (Bad _ _)
+    (sym (m .before .before .request .ensures) ∙ m .r3 .given .1) (c .before .before .refused-line .ensures (a .eeprom .now) (a .id .now))
 
 pub answer-line-spec : {M : Type 1} → statement M
 answer-line-spec =
