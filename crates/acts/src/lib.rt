@@ -1,3 +1,5 @@
+#![tactic(auto)]
+
 // The acts on a chip's record and the two memories that are lent to each act.
 ghost use Rattle.std.specs.Prelude.{◌≡◌, ◌+◌, ◌≤◌, length};
 ghost use Rattle.record.specs.Address.{page_of};
@@ -14,7 +16,7 @@ use record::{Act, Device, Reply};
 pub mod page; // page.rt: a page stored under a mask, a memory erased
 
 // The answer of an act: its number in the refusal table, 0 for done; the reply on SO; a wait's ticks used or a cut's count; the record.
-#[derive(Drop)]
+#[derive(Clone, Copy)]
 pub struct Answer {
     pub number: u8,
     pub reply: Reply,

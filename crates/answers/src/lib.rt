@@ -1,3 +1,5 @@
+#![tactic(auto)]
+
 // What a line answers. The EEPROM is lent as the 256 bytes of the largest part; a 1 Kbit part has the first 128, and leaves the others alone.
 ghost use Rattle.std.specs.Prelude.{◌≡◌, true, List, ℕ, ◌+◌, ◌≤◌, length};
 ghost use Rattle.text.specs.Buffer.{buffer};
@@ -8,7 +10,7 @@ use lines::{Out, Request};
 use record::{Act, Device};
 
 // How far a tape has come between two lines: its part, 0 while none is accepted, the chip's record, and the place in the output.
-#[derive(Drop)]
+#[derive(Clone, Copy)]
 pub struct Progress {
     pub part: u64,
     pub device: Device,

@@ -1,3 +1,5 @@
+#![tactic(auto)]
+
 // The arrays of a caller in another language: a state array judged, read and written; the numbers of an answer.
 ghost use Rattle.std.specs.Prelude.{◌≡◌, true, not, [], ◌∷◌, ◌++◌, ◌+◌, ◌%◌, ◌≤◌, length, take, drop};
 ghost use Rattle.text.specs.Buffer.{buffer, append};

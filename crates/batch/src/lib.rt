@@ -1,3 +1,5 @@
+#![tactic(auto)]
+
 // A list of acts on a fresh chip, or on one that is at work, performed one after the other.
 ghost use Rattle.std.specs.Prelude.{◌≡◌, min, length};
 ghost use Rattle.record.specs.World.{world};

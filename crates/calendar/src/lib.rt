@@ -1,3 +1,5 @@
+#![tactic(auto)]
+
 // C6. The calendar: BCD fields and dates, the step of a field with its carry, of a date and of the time registers.
 // Every public function answers, for every byte, valid or not, what its definition in specs/ says.
 ghost use Rattle.std.specs.Prelude.{◌≡◌, ◌<◌};
@@ -12,14 +14,14 @@ ghost use Rattle.calendar.specs.Date.{leap_year, month_length, next_date};
 ghost use Rattle.calendar.specs.Time.{date_of, with_date, on_day, advanced};
 
 // A field after its step, and whether it carried.
-#[derive(Drop)]
+#[derive(Clone, Copy)]
 pub struct Step {
     pub value: u8,
     pub carry: bool,
 }
 
 // Bare fields, with no chip's control bits.
-#[derive(Drop)]
+#[derive(Clone, Copy)]
 pub struct Date {
     pub day: u8,
     pub date: u8,
@@ -28,14 +30,14 @@ pub struct Date {
 }
 
 // A date after its step, and whether its year carried.
-#[derive(Drop)]
+#[derive(Clone, Copy)]
 pub struct DateStep {
     pub date: Date,
     pub carry: bool,
 }
 
 // The stored bytes 00h to 07h, with their control bits.
-#[derive(Drop)]
+#[derive(Clone, Copy)]
 pub struct Time {
     pub hundredths: u8,
     pub seconds: u8,
@@ -48,7 +50,7 @@ pub struct Time {
 }
 
 // K10. The next eight bytes, and which fields took a value: hundredths always do, day and date together.
-#[derive(Drop)]
+#[derive(Clone, Copy)]
 pub struct Advanced {
     pub time: Time,
     pub seconds: bool,

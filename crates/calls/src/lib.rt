@@ -1,3 +1,5 @@
+#![tactic(auto)]
+
 // An act for a caller in another language, on arrays that are the caller's own. A slice is a pointer and a length to it, an array of a fixed length a pointer.
 ghost use Rattle.std.specs.Prelude.{◌≡◌};
 ghost use Rattle.arrays.specs.Arrays.{arrays};

@@ -1,3 +1,5 @@
+#![tactic(auto)]
+
 // The event inputs in code: what an edge, a tick, a write of 0Bh, a cut and a jump do to them.
 pub mod control; // control.rt: what the byte of 0Bh sets
 pub mod pins; // pins.rt: levels, a write of 0Bh, a cut

@@ -1,1 +1,3 @@
+#![tactic(auto)]
+
 // What differs between two chips: definitions and laws, no function.

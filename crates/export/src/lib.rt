@@ -1,3 +1,5 @@
+#![tactic(auto)]
+
 // The chip for a caller in another language, but its acts, which are in `calls`: a fresh chip, its text, and a chip from text. A slice is a pointer and
 // a length to it, an array of a fixed length a pointer.
 ghost use Rattle.std.specs.Prelude.{◌≡◌, []};

@@ -1,1 +1,3 @@
+#![tactic(auto)]
+
 // The saved form: definitions and laws, no function.

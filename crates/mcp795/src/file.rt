@@ -4,14 +4,14 @@ ghost use Rattle.std.specs.Prelude.{◌≡◌, length};
 use text::{buffer, bytes};
 
 // What was read: whether it was read to its end or to the end of the room, and how many bytes.
-#[derive(Drop)]
+#[derive(Clone, Copy)]
 pub struct Got {
     pub good: bool,
     pub length: usize,
 }
 
 // A file that was made beside another, and the length of its path.
-#[derive(Drop)]
+#[derive(Clone, Copy)]
 struct Made {
     fd: i32,
     length: usize,

@@ -11,7 +11,7 @@ use tape::Tape;
 use text::bytes;
 
 // A tape that was opened, and the length of its name.
-#[derive(Drop)]
+#[derive(Clone, Copy)]
 struct Source {
     fd: i32,
     length: usize,

@@ -1,3 +1,5 @@
+#![tactic(auto)]
+
 // Tapes in, answers out. What a tape answers is the tape crate's; the program only reads and writes.
 mod file; // file.rt: a small file, read or replaced
 mod help; // help.rt: what --help and --version tell
@@ -7,7 +9,7 @@ mod run; // run.rt: one tape, from a descriptor to standard output
 ghost use Rattle.io.specs.Counts.{IsPrefixLen};
 
 // What the arguments have said: an option may still come, a tape was named, standard output takes answers.
-#[derive(Drop)]
+#[derive(Clone, Copy)]
 struct Named {
     options: bool,
     tapes: bool,
@@ -17,7 +19,7 @@ struct Named {
 // What the options and tapes are, by the places of arguments, 0 where there is none: the files of --load and --save, the last tape, an option that is obeyed
 // before any tape is answered, and one that stands twice; whether the next argument is a file, whether an option may still come, and whether there are
 // several tapes.
-#[derive(Drop)]
+#[derive(Clone, Copy)]
 struct Asked {
     load: usize,
     save: usize,

@@ -15,7 +15,7 @@ const OUT_ROOM: usize = INPUT_ROOM * codec::print::ANSWER_ROOM;
 
 // A tape between two reads: how far it has come, how many bytes of answers the last read put out, whether to read on, whether it was read and answered to
 // its end, and whether standard output takes answers.
-#[derive(Drop)]
+#[derive(Clone, Copy)]
 pub struct Reading {
     pub tape: Tape,
     pub put: usize,

@@ -1,3 +1,5 @@
+#![tactic(auto)]
+
 // A chip as a list of numbers: the number of each case of each enum, and the value that it carries; the table of the saved form; and the whole list.
 ghost use Rattle.std.specs.Prelude.{◌≡◌};
 ghost use Rattle.record.specs.declared.Act.TheVariants.{Set};

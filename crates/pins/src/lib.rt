@@ -1,3 +1,5 @@
+#![tactic(auto)]
+
 // The level of an event input set, on the record.
 ghost use Rattle.std.specs.Prelude.{◌≡◌};
 ghost use Rattle.pins.specs.Set.{door_at, drum_at, after_set};

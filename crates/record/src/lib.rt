@@ -1,3 +1,5 @@
+#![tactic(auto)]
+
 // The chip's record: what a chip is between two acts. The registers and the SRAM are held in it by value; the two
 // memories, EEPROM and ID, are lent to each act and are no part of it.
 ghost use Rattle.std.specs.Prelude.{◌≡◌};
@@ -16,19 +18,19 @@ pub mod stages; // stages.rt: what a stage and a cycle's target tell
 pub mod stamps; // stamps.rt: the time_stamps_lem of a power failure
 
 // An address of the EEPROM.
-#[derive(Drop)]
+#[derive(Clone, Copy)]
 pub struct EepromAddress(pub u8);
 
 // An address of the clock block, registers 00h to 1Fh and SRAM 20h to 5Fh; from 60h up there is nothing.
-#[derive(Drop)]
+#[derive(Clone, Copy)]
 pub struct ClockAddress(pub u8);
 
 // An address of the ID bytes.
-#[derive(Drop)]
+#[derive(Clone, Copy)]
 pub struct IdAddress(pub u8);
 
 // The instruction codes, by the sheet's names, and any other code.
-#[derive(Drop)]
+#[derive(Clone, Copy)]
 pub enum Code {
     Eeread,
     Eewrite,
@@ -47,7 +49,7 @@ pub enum Code {
 }
 
 // Where the pointer of a frame stands, by the memory that it is for.
-#[derive(Drop)]
+#[derive(Clone, Copy)]
 pub enum Place {
     EepromAt(EepromAddress),
     ClockAt(ClockAddress),
@@ -55,7 +57,7 @@ pub enum Place {
 }
 
 // What the second byte of a code that takes no address brought.
-#[derive(Drop)]
+#[derive(Clone, Copy)]
 pub enum Pair {
     // SRWRITE: the STATUS byte
     StatusData(u8),
@@ -68,7 +70,7 @@ pub enum Pair {
 }
 
 // A code with a byte more than it takes.
-#[derive(Drop)]
+#[derive(Clone, Copy)]
 pub enum Long {
     // SRWRITE with a second data byte
     StatusOver,
@@ -85,7 +87,7 @@ pub enum Long {
 }
 
 // How far a frame has come.
-#[derive(Drop)]
+#[derive(Clone, Copy)]
 pub enum Stage {
     // not selected
     Idle,
@@ -106,7 +108,7 @@ pub enum Stage {
 }
 
 // What BP1 and BP0 protect.
-#[derive(Drop)]
+#[derive(Clone, Copy)]
 pub enum Protection {
     Nothing,
     Quarter,
@@ -115,7 +117,7 @@ pub enum Protection {
 }
 
 // The lock of the ID bytes: First is UNLOCK 55h taken, and AAh not yet.
-#[derive(Drop)]
+#[derive(Clone, Copy)]
 pub enum Lock {
     Closed,
     First,
@@ -123,7 +125,7 @@ pub enum Lock {
 }
 
 // What a write cycle writes, and where: the page of an address, or the protection bits.
-#[derive(Drop)]
+#[derive(Clone, Copy)]
 pub enum Target {
     Eeprom(EepromAddress),
     Id(IdAddress),
@@ -131,13 +133,13 @@ pub enum Target {
 }
 
 // The frame.
-#[derive(Drop)]
+#[derive(Clone, Copy)]
 pub struct Frame {
     pub stage: Stage,
 }
 
 // The page load: the set of loaded offsets, their bytes, and the offset of the next byte.
-#[derive(Drop)]
+#[derive(Clone, Copy)]
 pub struct Load {
     pub offsets: u8,
     pub bytes: [u8; 8],
@@ -145,14 +147,14 @@ pub struct Load {
 }
 
 // The write cycle; with 0 ticks left there is none.
-#[derive(Drop)]
+#[derive(Clone, Copy)]
 pub struct Cycle {
     pub target: Target,
     pub left: u8,
 }
 
 // The write enable latch, the protection and the lock.
-#[derive(Drop)]
+#[derive(Clone, Copy)]
 pub struct Guard {
     pub wel: bool,
     pub protection: Protection,
@@ -160,7 +162,7 @@ pub struct Guard {
 }
 
 // The counts that ticks move.
-#[derive(Drop)]
+#[derive(Clone, Copy)]
 pub struct Counters {
     pub divider: u16,
     pub startup: u8,
@@ -169,7 +171,7 @@ pub struct Counters {
     pub pulse: u16,
 }
 
-#[derive(Drop)]
+#[derive(Clone, Copy)]
 pub struct Device {
     pub regs: [u8; 32],
     pub sram: [u8; 64],
@@ -186,21 +188,21 @@ pub struct Device {
 
 // The answer on SO: what is driven, the byte of an exchange or the bits of one that an end broke off; or none, where SO is off or no bit was
 // clocked.
-#[derive(Drop)]
+#[derive(Clone, Copy)]
 pub enum Reply {
     Driven(u8),
     Off,
 }
 
 // The event inputs' pins.
-#[derive(Drop)]
+#[derive(Clone, Copy)]
 pub enum Pin {
     Evls,
     Evhs,
 }
 
 // The acts: six, and the level of a pin set.
-#[derive(Drop)]
+#[derive(Clone, Copy)]
 pub enum Act {
     Select,
     Byte,

@@ -6,7 +6,7 @@ use crate::ClockAddress;
 use crate::registers::{DATE, DAY, HOURS, MINUTES, MONTH, POWER_DOWN, POWER_UP};
 
 // What a time-stamp holds.
-#[derive(Drop)]
+#[derive(Clone, Copy)]
 struct Stamp {
     minutes: u8,
     hours: u8,

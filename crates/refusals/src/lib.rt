@@ -1,3 +1,5 @@
+#![tactic(auto)]
+
 // The refusal table: the number that answers an act, or 0, in two steps: what is wrong with part, memories and record, and what is wrong with the
 // act. It performs nothing.
 ghost use Rattle.std.specs.Prelude.{◌≡◌};

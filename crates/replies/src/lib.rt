@@ -1,3 +1,5 @@
+#![tactic(auto)]
+
 // What the next whole exchange of a frame answers, and its first bits.
 ghost use Rattle.std.specs.Prelude.{◌≡◌, ◌<◌, length, get_or};
 ghost use Rattle.base.specs.Words.{flag};

@@ -1,3 +1,5 @@
+#![tactic(auto)]
+
 // A chip saved as text, and loaded from it.
 ghost use Rattle.std.specs.Prelude.{◌≡◌};
 ghost use Rattle.record.specs.World.{world};
@@ -17,7 +19,7 @@ mod scan; // scan.rt: a text read from left to right
 const TEXT_ROOM: usize = 8000;
 
 // A place in a text, the good lines so far, and whether a bad line was met.
-#[derive(Drop)]
+#[derive(Clone, Copy)]
 pub struct Place {
     pub at: usize,
     pub lines: usize,
@@ -25,7 +27,7 @@ pub struct Place {
 }
 
 // What saving answers: a number, 0 for done; the line, always 0; how many bytes the text has.
-#[derive(Drop)]
+#[derive(Clone, Copy)]
 pub struct Saved {
     pub number: u8,
     pub line: usize,
@@ -33,7 +35,7 @@ pub struct Saved {
 }
 
 // What loading answers: a number, 0 for done; the first bad line, from 1, where there is one; the chip's part and record.
-#[derive(Drop)]
+#[derive(Clone, Copy)]
 pub struct Loaded {
     pub number: u8,
     pub line: usize,

@@ -13,14 +13,14 @@ use text::bytes;
 const EVENTS: usize = 21;
 
 // The place after a line's numbers, and whether they are good.
-#[derive(Drop)]
+#[derive(Clone, Copy)]
 pub struct Line {
     pub place: Place,
     pub good: bool,
 }
 
 // The place after a row, and how many numbers there are.
-#[derive(Drop)]
+#[derive(Clone, Copy)]
 pub struct Read {
     pub place: Place,
     pub count: usize,

@@ -10,7 +10,7 @@ use text::{Kind, bytes, decimal};
 const DIGIT_LIMIT: usize = 8;
 
 // A number read, and the place after it.
-#[derive(Drop)]
+#[derive(Clone, Copy)]
 pub struct Found {
     pub value: u64,
     pub place: Place,

@@ -15,7 +15,7 @@ const FLAG_0: ClockAddress = ClockAddress(ALARM_0 as u8);
 const FLAG_1: ClockAddress = ClockAddress(ALARM_1 as u8);
 
 // Which of an alarm's fields agree with the time registers.
-#[derive(Drop)]
+#[derive(Clone, Copy)]
 pub struct Matches {
     pub seconds: bool,
     pub minutes: bool,

@@ -1,3 +1,5 @@
+#![tactic(auto)]
+
 // The chip's ticks and its output lines, as functions of its record. The calendar is known by its promise alone.
 pub mod lines; // lines.rt: IRQ, WDO, WIP
 pub mod alarm; // alarm.rt: which alarm matches, and its flag

@@ -5,7 +5,7 @@ ghost use Rattle.ticks.specs.RecordTick.{device_waited};
 use crate::jump::{jump, quiet_ticks};
 use record::Device;
 
-#[derive(Drop)]
+#[derive(Clone, Copy)]
 pub struct Waited {
     pub used: u64,
     pub device: Device,
