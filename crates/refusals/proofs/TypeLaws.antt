@@ -23,18 +23,11 @@ each_byte (x ∷ xs) [] s k = absurd s
 each_byte (x ∷ xs) (u ∷ us) s zero = omega (arith, s.0.1)
 each_byte (x ∷ xs) (u ∷ us) s (suc k) = each_byte xs us s.1 k
 
--- an array's elements are listed one by one
-listed : (xs : List ℕ) → map (λ (x : ℕ). x) xs ≡ xs
-listed [] = refl
-listed (x ∷ xs) = ap (λ (l : List ℕ). x ∷ l) (listed xs)
+array_made : (n : ℕ) (xs : List ℕ) (vs : List Val) → Is (Array (UInt w8) n) xs vs → (length xs ≡ n) × Bytes xs
+array_made n xs vs g = (g.1.0.1, each_byte xs g.0 g.1.1)
 
-array_made : (n : ℕ) (xs : List ℕ) (vs : List Val) → Is (Array (UInt w8) n) (map (λ (x : ℕ). x) xs) vs → (length xs ≡ n) × Bytes xs
-array_made n xs vs g =
-    let a = subst (λ (l : List ℕ). Is (Array (UInt w8) n) l vs) (listed xs) g in
-    (a.1.0.1, each_byte xs a.0 a.1.1)
-
-pub record-sized : (d : Device) (vs : List Val) → Is (row the_type) d vs → Sized d
-record-sized d vs g =
+pub record_sized : (d : Device) (vs : List Val) → Is (row the_type) d vs → Sized d
+record_sized d vs g =
     let f = g.1.1 in
     let load = f.1.1.1.1.1.1.1.0.1.1 in
     let regs = array_made 32 d.regs _ f.0 in

@@ -49,8 +49,8 @@ use Rattle.run.proofs.Codes.{code_at_lem, addressed_at, write_at, moves, write_m
 use Rattle.run.proofs.PartLaws.{size_agrees}
 
 -- a data byte came where the count says so
-data-count : (n o : ℕ) → 1 < n → (n ≡ 2 → o ≡ 0) → (2 < n → 0 < o) → ltb 0 (n - 2) ≡ not (eqb o 0)
-data-count n o h p q =
+data_count : (n o : ℕ) → 1 < n → (n ≡ 2 → o ≡ 0) → (2 < n → 0 < o) → ltb 0 (n - 2) ≡ not (eqb o 0)
+data_count n o h p q =
     by_cases (ltb 2 n)
     (λ t.
     let m : 2 < n = ltb-true 2 n t in
@@ -81,7 +81,7 @@ module _ (load : Load) (f : ledger.Frame) where
       record { fits = rw none; page = λ e. q.page }
 
   fits_page : (o : ℕ) → 1 < f.count → (f.count ≡ 2 → o ≡ 0) → (2 < f.count → 0 < o) → (ltb 0 (f.count - 2) && true) ≡ (not (eqb o 0) && true)
-  fits_page o n p q = ap (λ (t : Bool). t && true) (data-count f.count o n p q)
+  fits_page o n p q = ap (λ (t : Bool). t && true) (data_count f.count o n p q)
 
   fits_eeprom : (a : EepromAddress) → Fits (Writing (EepromAt a))
   fits_eeprom a n q =

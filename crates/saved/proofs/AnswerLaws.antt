@@ -155,8 +155,8 @@ module _ (text : List ℕ) (part : ℕ) (w : World) (m : List ℕ) (at lines cou
     pub chip-read : IsChip ns
     chip-read = (loads_text text ns whole).0
 
-    pub record-read : RecordFacts ns
-    record-read = (good_facts ns chip-read).chip.first
+    pub record_read : RecordFacts ns
+    record_read = (good_facts ns chip-read).chip.first
 
     pub events-read : (k : ℕ) → k ≡ chip_events ns → EventFacts k ns × (k + 5 ≤ length ns)
     events-read k e =

@@ -1,0 +1,31 @@
+-- `refusals::range::bit_outside`: the registers passed have no bit outside (`every_more`), so what is left decides (`every_none`, `every_false`); the bits
+-- that a register may hold are a promise.
+-- Assumes nothing.
+use mathlib.Core.Path.{◌≡◌}
+use mathlib.Core.Bool.{true}
+use Prim.Native.Nat.{ℕ, ◌≤◌, ◌<◌, ◌-◌}
+use native.Mathlib.Omega.{arith}
+use borrow.Author.Tests.{eq-eqb, ne_eqb}
+use Rattle.base.specs.Words.{every}
+use Rattle.base.proofs.Every.{every_none, every_more, every_false}
+use Rattle.refusals.specs.Range.{inside_mask, bit_outside}
+use Rattle.refusals.proofs.range.bit_outside.Goals as goal
+
+pub loop-i-init : goal.loop-i-init
+loop-i-init c = (omega arith, every_none _)
+
+pub returns-then-regs-i : goal.returns-then-regs-i
+unfolding bit_outside
+returns-then-regs-i c =
+    let i : ℕ = c.loop-i.i in
+    let h : i < 32 = omega arith in
+    simp (every_false (inside_mask c.args.regs) 32 i h (ne_eqb _ _ (rw c.kept_bits-kept.ensures at c.if-regs-i.true)))
+
+pub loop-i-preserved : goal.loop-i-preserved
+loop-i-preserved c = (omega arith, every_more _ _ c.loop-i.invariant.1 (eq-eqb _ _ (rw c.kept_bits-kept.ensures at c.if-regs-i.false)))
+
+pub returns : goal.returns
+unfolding bit_outside
+returns c =
+    let e : c.loop-i.i ≡ 32 = omega arith in
+    simp (rw e at c.loop-i.invariant.1)
