@@ -75,7 +75,7 @@ one_on key p x xs y ys d o =
     record {
       named = o.named;
       far = suc o.far;
-      at = along o.at;
+      at = along o.far o.at;
       left = more o.left;
       right = more o.right;
       first = o.first;
@@ -83,8 +83,8 @@ one_on key p x xs y ys d o =
       apart = o.apart;
     }
   where
-    along : {q j : ℕ} → q ≡ suc p + j → q ≡ p + suc j
-    along e = omega (arith, e)
+    along : {q : ℕ} (j : ℕ) → q ≡ suc p + j → q ≡ p + suc j
+    along j e = omega (arith, e)
 
     more : {j n : ℕ} → j < n → suc j < suc n
     more l = omega (arith, l)
@@ -142,7 +142,7 @@ line_order key p (x ∷ xs) (y ∷ ys) n m l d e g h =
     ⊎_elim
     (λ v.
     ⊎_elim (λ w. absurd (none v.1.0 w.1.0))
-    (λ w. let o = line_told_lem key (suc p) xs ys w.0 e w.1.1 in before (ap (λ (c : Difference). c.place) v.1.1) o.at)
+    (λ w. let o = line_told_lem key (suc p) xs ys w.0 e w.1.1 in before o.far (ap (λ (c : Difference). c.place) v.1.1) o.at)
     (head_case t b rest m e h))
     (λ v.
     ⊎_elim (λ w. absurd (nothing w.1.0))
@@ -156,8 +156,8 @@ line_order key p (x ∷ xs) (y ∷ ys) n m l d e g h =
     nothing : m ≡ 0 → ⊥
     nothing r = omega (arith, r, l)
 
-    before : {q r j : ℕ} → q ≡ p → r ≡ suc p + j → q < r
-    before a c = omega (arith, a, c)
+    before : {q r : ℕ} (j : ℕ) → q ≡ p → r ≡ suc p + j → q < r
+    before j a c = omega (arith, a, c)
 
     under : (c : ℕ) {i j : ℕ} → n ≡ c + i → m ≡ c + j → i < j
     under c q r = omega (arith, q, r, l)
@@ -259,8 +259,8 @@ lines_order (b ∷ ls) ms a i j t d e g h n m l l' p q x y =
     (λ v. inl (next n0 (beyond v.0 e v.1.1 m l' q y)))
     (at_split first rest j e h))
     (λ u.
-    ⊎_elim (λ v. absurd (turned (length first) u.1.0 (at_below first j e v)))
-    (λ v. both u.0 v.0 (less (length first) u.1.0 v.1.0) u.1.1 v.1.1 n m p q)
+    ⊎_elim (λ v. absurd (turned (length first) u.0 u.1.0 (at_below first j e v)))
+    (λ v. both (λ k k' w u v s s' r z. lines_order ls ms (apart_rest b ls a) k k' w d e u v s s' l l' r z x y) u.0 v.0 (less (length first) u.1.0 v.1.0) u.1.1 v.1.1 n m p q)
     (at_split first rest j e h))
     (at_split first rest i d g)
   where
@@ -280,25 +280,27 @@ lines_order (b ∷ ls) ms a i j t d e g h n m l l' p q x y =
     next : n ≡ 0 → 0 < m → n < m
     next w v = omega (arith, w, v)
 
-    turned : (c : ℕ) {k : ℕ} → i ≡ c + k → j < c → ⊥
-    turned c w v = omega (arith, w, v, t)
+    turned : (c k : ℕ) → i ≡ c + k → j < c → ⊥
+    turned c k w v = omega (arith, w, v, t)
 
     less : (c : ℕ) {k k' : ℕ} → i ≡ c + k → j ≡ c + k' → k < k'
     less c w v = omega (arith, w, v, t)
 
     both :
-        (k k' : ℕ) → k < k' → At (lines_differ ls ms) k d → At (lines_differ ls ms) k' e → (s s' : ℕ) → At (b ∷ ls) s l → At (b ∷ ls) s' l'
+        ((k k' : ℕ) → k < k' → At (lines_differ ls ms) k d → At (lines_differ ls ms) k' e → (s s' : ℕ) → At ls s l → At ls s' l'
+        → (s < s') ⊎ ((s ≡ s') × (d.place < e.place)))
+        → (k k' : ℕ) → k < k' → At (lines_differ ls ms) k d → At (lines_differ ls ms) k' e → (s s' : ℕ) → At (b ∷ ls) s l → At (b ∷ ls) s' l'
         → (s < s') ⊎ ((s ≡ s') × (d.place < e.place))
-    both k k' w u v zero s' r z = absurd (lower (beyond k d u zero l r x))
+    both again k k' w u v zero s' r z = absurd (lower (beyond k d u zero l r x))
       where
         lower : 0 < 0 → ⊥
         lower f = omega (arith, f)
-    both k k' w u v (suc s) zero r z = absurd (lower (beyond k' e v zero l' z y))
+    both again k k' w u v (suc s) zero r z = absurd (lower (beyond k' e v zero l' z y))
       where
         lower : 0 < 0 → ⊥
         lower f = omega (arith, f)
-    both k k' w u v (suc s) (suc s') r z =
-        ⊎_elim (λ f. inl (up f)) (λ f. inr (ap suc f.0, f.1)) (lines_order ls ms (apart_rest b ls a) k k' w d e u v s s' l l' r z x y)
+    both again k k' w u v (suc s) (suc s') r z =
+        ⊎_elim (λ f. inl (up f)) (λ f. inr (ap suc f.0, f.1)) (again k k' w u v s s' r z)
       where
         up : s < s' → suc s < suc s'
         up f = omega (arith, f)
