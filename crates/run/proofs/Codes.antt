@@ -32,7 +32,7 @@ not_not false = refl
 
 -- the five that the ledger hears while its cycle runs
 abbrev five : ℕ → Bool
-five b = eqb b rules.SRREAD || eqb b rules.READ || eqb b rules.WRITE || eqb b rules.CLRWDT || eqb b rules.CLRRAM
+five b = eqb b rules.srread_code || eqb b rules.read_code || eqb b rules.write_code || eqb b rules.clrwdt_code || eqb b rules.clrram_code
 
 five_agrees : (b : ℕ) → five b ≡ heard_under_wip (code_of b)
 five_agrees b i = code_test Srread refl b i || code_test Read refl b i || code_test Write refl b i || code_test Clrwdt refl b i || code_test Clrram refl b i

@@ -1,0 +1,17 @@
+-- `acts::page::store`: after k turns the offsets below k are done.
+-- Assumes nothing.
+use mathlib.Core.Logic.{⊎_elim}
+use mathlib.Core.Path.{◌≡◌, refl, sym, ap, ◌∙◌}
+use Prim.Native.Nat.{◌-◌, ◌≤◌}
+use native.Mathlib.Omega.{arith}
+use lib.ListN.{length, length-set}
+use Rattle.base.specs.Words.{store_under}
+use Rattle.base.proofs.StoreLaws.{store_none}
+use Rattle.acts.proofs.PageLaws.{stored, skipped}
+use Rattle.acts.proofs.page.store.Given as goal
+
+abbrev pub invariant-loop-k : goal.invariant-loop-k
+invariant-loop-k l = (l.k ≤ 8) × (length l.page ≡ length l.initial.page) × (l.page ≡ store_under l.initial.page 0 l.set l.bytes l.k)
+
+abbrev pub decreases-loop-k : goal.decreases-loop-k
+decreases-loop-k l = 8 - l.k

@@ -1,0 +1,98 @@
+-- `saved::read::read_row`: after i lines what is left gives what the whole gives (`Rows`).
+-- Assumes nothing.
+-- after a line has been read: its numbers are in the array
+use native.Mathlib.Omega.{arith}
+use mathlib.Core.Path.{◌≡◌, refl, sym, subst, ◌∙◌}
+use Prim.Native.Nat.{ℕ, ◌+◌, ◌-◌, ◌≤◌, ◌<◌}
+use lib.ListN.{length, take}
+use Rattle.form.specs.Table.{span}
+use Rattle.numbers.specs.Tables.{row_at}
+use Rattle.saved.specs.Reading.{got}
+use Rattle.saved.specs.Place.{reading_at}
+use Rattle.saved.proofs.LoopLaws.{Rows, rows_none, rows_step, rows_all, lines_are, lines_most, width_most, line_fits, held_long}
+use Rattle.saved.proofs.read.read_row.Goals as goal
+
+less : {m : ℕ} (s : ℕ) → m + s ≤ 400 → m ≤ 400
+less s p = omega (arith, p)
+
+few : {n m k : ℕ} → n < m → m ≡ k → k ≤ 32 → n < 32
+few p q t = omega (arith, p, q, t)
+
+pub width-width-requires : goal.width-width-requires
+width-width-requires c = c.requires.row_lt_row_count
+
+pub bounds-numbers-0 : goal.bounds-numbers-0
+bounds-numbers-0 c =
+    let o = c.requires.holds in
+    omega (arith, o.long)
+
+pub lines-lines-requires : goal.lines-lines-requires
+lines-lines-requires c = c.requires.row_lt_row_count
+
+pub loop-i-init : goal.loop-i-init
+loop-i-init c =
+    let a = c.args in
+    let h = c.requires in
+    let x = reading_at a.text.now a.p in
+    let b = take a.count a.numbers.now in
+    let r = row_at a.row in
+    let o = h.holds in
+    let k = held_long a.numbers.now a.count o (less (span r b) h.numbers_bound) in
+    (omega arith, o.long, rows_none r c.lines-lines.result (got b x) a.numbers.now a.count x o refl k h.lines_le_count)
+
+pub read_line-place-requires : goal.read_line-place-requires
+read_line-place-requires c =
+    let a = c.args in
+    let h = c.requires in
+    let o = h.holds in
+    let n = lines_are a.row _ a.numbers.now a.count h.row_lt_row_count o c.lines-lines.ensures in
+    let l = c.loop-i in
+    let t = c.loop-i-test.true in
+    let w = c.width-width.ensures in
+    let f = l.invariant.2 in
+    let m = line_fits a.row _ a.numbers.now a.count l.i l.at o n h.numbers_bound t f.counted in
+    record {
+      row_lt_row_count = h.row_lt_row_count;
+      width_value = w;
+      width_bound = subst (λ (z : ℕ). l.at + z ≤ 400) (sym w) m;
+      i_bound = few t n (lines_most (take a.count a.numbers.now) a.row h.row_lt_row_count);
+      lines_le_count = f.fewer;
+      holds = f.list;
+    }
+
+pub overflow_add-at : goal.overflow_add-at
+overflow_add-at c =
+    let w = c.width-width.ensures in
+    let n = lines_are c.args.row _ c.args.numbers.now c.args.count c.requires.row_lt_row_count c.requires.holds c.lines-lines.ensures in
+    let m =
+        line_fits c.args.row _ c.args.numbers.now c.args.count c.loop-i.i c.loop-i.at c.requires.holds n c.requires.numbers_bound c.loop-i-test.true
+        c.loop-i.invariant.2.counted in
+    record { fits = omega (arith, m, w) }
+
+pub loop-i-preserved : goal.loop-i-preserved
+loop-i-preserved c =
+    let a = c.args in
+    let x = a.text.now in
+    let l = c.loop-i in
+    let t = c.loop-i-test.true in
+    let w = c.width-width in
+    let d = c.read_line-place in
+    let n = lines_are c.args.row _ c.args.numbers.now c.args.count c.requires.row_lt_row_count c.requires.holds c.lines-lines.ensures in
+    let m =
+        line_fits c.args.row _ c.args.numbers.now c.args.count c.loop-i.i c.loop-i.at c.requires.holds n c.requires.numbers_bound c.loop-i-test.true
+        c.loop-i.invariant.2.counted in
+    let v = rows_step (row_at a.row) c.lines-lines.result (got (take a.count a.numbers.now) (reading_at x a.p))
+    w.result w.ensures l.i l.at l.numbers (reading_at x l.place) _
+    (reading_at x d.result) t m (width_most a.row c.requires.row_lt_row_count).0 l.invariant.2 d.ensures.numbers_after
+    d.ensures.result_value d.ensures.lines_bound in
+    (omega (arith, t), v.list.long, v)
+
+pub returns : goal.returns
+returns c =
+    let a = c.args in
+    let h = c.requires in
+    let x = a.text.now in
+    let n = lines_are a.row _ a.numbers.now a.count h.row_lt_row_count h.holds c.lines-lines.ensures in
+    let l = c.loop-i in
+    rows_all (row_at a.row) c.lines-lines.result (got (take a.count a.numbers.now) (reading_at x a.p)) l.i l.at l.numbers
+    (reading_at x l.place) (omega (arith, l.invariant.0)) n l.invariant.2
