@@ -1,10 +1,9 @@
 -- `answers::part_line`: a part again, none of the four, and a fresh chip.
 -- Assumes nothing.
--- the part's bytes are among those lent
 use native.Mathlib.Omega.{arith}
 use mathlib.Core.Path.{◌≡◌, sym, ap, ◌∙◌}
 use mathlib.Core.Bool.{true, false}
-use mathlib.Core.List.{◌++◌}
+use mathlib.Core.List.{List, ◌++◌}
 use Prim.Native.Nat.{ℕ, ◌≤◌}
 use lib.Dec.{eqb}
 use lib.ListN.{length, replicate, drop}
@@ -12,17 +11,16 @@ use lib.Seq.{length-take-le}
 use borrow.Author.Tests.{not-true, not-false}
 use borrow.Author.Rules.{rules}
 use Rattle.base.proofs.Tests.{yes, no}
-use Rattle.record.specs.Part.{is_part}
+use Rattle.record.specs.Part.{is_part, size_of}
 use Rattle.record.proofs.PartLaws.{size_most}
 use Rattle.text.specs.Buffer.{buffer}
 use Rattle.answers.specs.Answer.{held_by, shown_in}
 use Rattle.answers.proofs.AnswerLaws.{fresh_shown}
 use Rattle.answers.proofs.part_line.Goals as goal
 
-within : (c : tie.After-size) → c.size.result ≤ length c.before.before.before.before.before.before.before.before.args.eeprom.now
-within c =
-    let b = c.before.before.before.before.before.before.before.before in
-    omega (arith, b.requires.0.eeprom, size_most b.args.arg, c.size.ensures)
+-- the part's bytes are among those lent
+within : (k p : ℕ) (ee : List ℕ) → length ee ≡ 256 → k ≡ size_of p → k ≤ length ee
+within k p ee l e = omega (arith, l, size_most p, e)
 
 pub returns-then-not-none : goal.returns-then-not-none
 returns-then-not-none c =
@@ -40,10 +38,10 @@ returns-then-not-is_part c =
     (no _ _ n ∙ yes _ _ (not-false (eqb a.p.part 0) c.if-not-none.false-raw))
 
 pub slice_bounds-erase-end : goal.slice_bounds-erase-end
-slice_bounds-erase-end c = within c
+slice_bounds-erase-end c = within c.size-size.result c.args.arg c.args.eeprom.now c.requires.lent.eeprom c.size-size.ensures
 
 pub slice_bounds-erase-end-2 : goal.slice_bounds-erase-end-2
-slice_bounds-erase-end-2 c = sym (length-take-le _ _ (within c))
+slice_bounds-erase-end-2 c = sym (length-take-le _ _ (within c.size-size.result c.args.arg c.args.eeprom.now c.requires.lent.eeprom c.size-size.ensures))
 
 pub told-requires : goal.told-requires
 told-requires c =
@@ -60,6 +58,6 @@ returns c =
     let o = buffer a.into.now a.p.at in
     c.told.ensures (e1.new.m ++ drop c.size-size.result a.eeprom.now) e2.new.m
     ∙ fresh_shown h o a.arg _ e1.new.m _ _ c.requires.lent.id c.fresh_device.ensures
-    (e1.ensures ∙ ap (λ (k : ℕ). replicate k 255) (length-take-le c.size-size.result a.eeprom.now (within z) ∙ s))
+    (e1.ensures ∙ ap (λ (k : ℕ). replicate k 255) (length-take-le c.size-size.result a.eeprom.now (within c.size-size.result c.args.arg c.args.eeprom.now c.requires.lent.eeprom c.size-size.ensures) ∙ s))
     (ap (λ (k : ℕ). e1.new.m ++ drop k a.eeprom.now) s) e2.ensures
     ∙ ap (shown_in h o) (yes _ _ n ∙ yes _ _ (not-false (eqb a.p.part 0) c.if-not-none.false-raw))

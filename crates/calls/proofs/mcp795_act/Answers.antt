@@ -1,0 +1,43 @@
+-- `calls::mcp795_act`: by the case that it is in.
+-- Assumes nothing.
+use borrow.Author.Rules.{rules}
+use native.Mathlib.Omega.{arith}
+use lib.ListN.{length}
+use Rattle.arrays.specs.Arrays.{arrays}
+use Rattle.calls.proofs.CallLaws.{state_long, state_there, setup_there, act-refused, act-none, act-done}
+use Rattle.calls.proofs.mcp795_act.Goals as goal
+
+pub returns-then-refused-ne0 : goal.returns-then-refused-ne0
+returns-then-refused-ne0 c =
+    let a = c.args in
+    act-refused (arrays a.state.now a.eeprom.now a.id.now) _ c.state_refusal-refused.ensures a.act a.number c.if-refused-ne0.true
+
+pub device_in-device-requires : goal.device_in-device-requires
+device_in-device-requires c =
+    let a = c.args in
+    let ee = length a.eeprom.now in
+    let id = length a.id.now in
+    record {
+      state_len = state_long a.state.now ee id _ c.state_refusal-refused.ensures c.if-refused-ne0.false;
+      state_value = state_there a.state.now ee id _ c.state_refusal-refused.ensures c.if-refused-ne0.false;
+    }
+
+pub returns-then-act-gt7 : goal.returns-then-act-gt7
+returns-then-act-gt7 c =
+    let a = c.args in
+    act-none (arrays a.state.now a.eeprom.now a.id.now) _ c.state_refusal-refused.ensures a.act a.number c.if-refused-ne0.false _ _ (omega arith) c.put_answer.ensures c.device_in-device.ensures
+
+pub perform_in_range-a-requires : goal.perform_in_range-a-requires
+perform_in_range-a-requires c =
+    let a = c.args in
+    setup_there a.state.now (length a.eeprom.now) (length a.id.now) _ c.state_refusal-refused.ensures c.if-refused-ne0.false _ _ c.part_of-part.ensures c.device_in-device.ensures
+
+pub put_state-requires : goal.put_state-requires
+put_state-requires c =
+    let a = c.args in
+    state_long a.state.now (length a.eeprom.now) (length a.id.now) _ c.state_refusal-refused.ensures c.if-refused-ne0.false
+
+pub returns : goal.returns
+returns c =
+    let a = c.args in
+    act-done (arrays a.state.now a.eeprom.now a.id.now) _ c.state_refusal-refused.ensures a.act a.number c.if-refused-ne0.false _ _ _ _ _ _ _ _ c.part_of-part.ensures c.if-act-gt7.false c.act_of-code.ensures c.device_in-device.ensures c.perform_in_range-a.ensures c.put_state.ensures c.put_answer-2.ensures

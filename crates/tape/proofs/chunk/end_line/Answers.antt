@@ -1,0 +1,51 @@
+-- `tape::chunk::end_line`: a line that lies in the chunk whole, and one whose head and last piece are put together.
+-- Assumes nothing.
+-- the head is no longer than the array
+-- it stands in it
+use native.Mathlib.Omega.{arith}
+use mathlib.Core.Path.{◌≡◌, sym, ap, ◌∙◌}
+use mathlib.Core.List.{List, ◌++◌}
+use Prim.Native.Nat.{ℕ, ◌≤◌}
+use lib.ListN.{length, take, length-take}
+use borrow.Author.Rules.{rules}
+use Rattle.text.specs.Buffer.{buffer}
+use Rattle.answers.specs.Answer.{held_by, setup_in, line_answer, shown_in}
+use Rattle.tape.specs.Tape.{head, head_limit}
+use Rattle.tape.proofs.TapeLaws.{head_answers, put_first, head_whole}
+use Rattle.tape.proofs.chunk.end_line.Goals as goal
+
+short : (c : tie.After-first) → length c.first.result.now ≤ head_limit
+short c =
+    let b = c.before.before.before.before.before.before.before in
+    omega (arith, b.requires.0.within, ap length c.first.ensures ∙ length-take b.args.begun b.args.line.now)
+
+head_in :
+    (c : tie.After-put)
+    → (c.put.result ≡ length c.before.before.first.result.now) × (take c.put.result c.put.new.1.0 ≡ c.before.before.first.result.now)
+head_in c = put_first _ c.put.new.1.0 c.before.before.first.result.now c.put.result c.put.ensures (omega (arith, short c.before.before))
+
+pub returns-then-begun-eq0 : goal.returns-then-begun-eq0
+returns-then-begun-eq0 c =
+    let a = c.args in
+    let h = held_by a.p a.eeprom.now a.id.now in
+    let s = setup_in h in
+    c.answer_line.ensures
+    ∙ ap (shown_in h (buffer a.into.now a.p.at))
+    (sym (head_answers a.piece.now s) ∙ ap (λ (n : ℕ). line_answer (head (take n a.line.now ++ a.piece.now)) s) (sym c.if-begun-eq0.true))
+
+pub put-kept-requires : goal.put-kept-requires
+put-kept-requires c = omega (arith, short c)
+
+pub add_to_head-n-requires : goal.add_to_head-n-requires
+add_to_head-n-requires c =
+    record { size = c.put-kept.auto.into; within = omega (arith, (head_in p).0, short c) }
+
+pub returns : goal.returns
+returns c =
+    let k = c.add_to_head-n in
+    let a = c.args in
+    let h = held_by a.p a.eeprom.now a.id.now in
+    c.answer_line-2.ensures
+    ∙ ap (λ (l : List ℕ). shown_in h (buffer a.into.now a.p.at) (line_answer l (setup_in h)))
+    (c.first-2.ensures ∙ head_whole c.put-kept.new.into k.new.line c.first.result.now a.piece.now c.put-kept.result k.result (head_in p).1 k.ensures.0 k.ensures.1
+    ∙ ap (λ (x : List ℕ). head (x ++ a.piece.now)) c.first.ensures)
