@@ -1,1 +1,2 @@
 pub mod TapeLaws
+pub mod TurnLaws

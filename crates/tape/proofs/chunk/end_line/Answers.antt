@@ -1,7 +1,5 @@
 -- `tape::chunk::end_line`: a line that lies in the chunk whole, and one whose head and last piece are put together.
 -- Assumes nothing.
--- the head is no longer than the array
--- it stands in it
 use native.Mathlib.Omega.{arith}
 use mathlib.Core.Path.{◌≡◌, sym, ap, ◌∙◌}
 use mathlib.Core.List.{List, ◌++◌}
@@ -14,15 +12,9 @@ use Rattle.tape.specs.Tape.{head, head_limit}
 use Rattle.tape.proofs.TapeLaws.{head_answers, put_first, head_whole}
 use Rattle.tape.proofs.chunk.end_line.Goals as goal
 
-short : (c : tie.After-first) → length c.first.result.now ≤ head_limit
-short c =
-    let b = c.before.before.before.before.before.before.before in
-    omega (arith, b.requires.0.within, ap length c.first.ensures ∙ length-take b.args.begun b.args.line.now)
-
-head_in :
-    (c : tie.After-put)
-    → (c.put.result ≡ length c.before.before.first.result.now) × (take c.put.result c.put.new.1.0 ≡ c.before.before.first.result.now)
-head_in c = put_first _ c.put.new.1.0 c.before.before.first.result.now c.put.result c.put.ensures (omega (arith, short c.before.before))
+-- the head is no longer than the array
+short : (s l : List ℕ) (n : ℕ) → s ≡ take n l → n ≤ head_limit → length s ≤ head_limit
+short s l n e h = omega (arith, h, ap length e ∙ length-take n l)
 
 pub returns-then-begun-eq0 : goal.returns-then-begun-eq0
 returns-then-begun-eq0 c =
@@ -34,18 +26,22 @@ returns-then-begun-eq0 c =
     (sym (head_answers a.piece.now s) ∙ ap (λ (n : ℕ). line_answer (head (take n a.line.now ++ a.piece.now)) s) (sym c.if-begun-eq0.true))
 
 pub put-kept-requires : goal.put-kept-requires
-put-kept-requires c = omega (arith, short c)
+put-kept-requires c = omega (arith, short c.first.result.now c.args.line.now c.args.begun c.first.ensures c.requires.headed.within)
 
 pub add_to_head-n-requires : goal.add_to_head-n-requires
 add_to_head-n-requires c =
-    record { size = c.put-kept.auto.into; within = omega (arith, (head_in p).0, short c) }
+    let s = short c.first.result.now c.args.line.now c.args.begun c.first.ensures c.requires.headed.within in
+    let h = put_first _ c.put-kept.new.into c.first.result.now c.put-kept.result c.put-kept.ensures (omega (arith, s)) in
+    record { size = c.put-kept.auto.into; within = omega (arith, h.0, s) }
 
 pub returns : goal.returns
 returns c =
     let k = c.add_to_head-n in
     let a = c.args in
     let h = held_by a.p a.eeprom.now a.id.now in
+    let s = short c.first.result.now c.args.line.now c.args.begun c.first.ensures c.requires.headed.within in
+    let q = put_first _ c.put-kept.new.into c.first.result.now c.put-kept.result c.put-kept.ensures (omega (arith, s)) in
     c.answer_line-2.ensures
     ∙ ap (λ (l : List ℕ). shown_in h (buffer a.into.now a.p.at) (line_answer l (setup_in h)))
-    (c.first-2.ensures ∙ head_whole c.put-kept.new.into k.new.line c.first.result.now a.piece.now c.put-kept.result k.result (head_in p).1 k.ensures.0 k.ensures.1
+    (c.first-2.ensures ∙ head_whole c.put-kept.new.into k.new.line c.first.result.now a.piece.now c.put-kept.result k.result q.1 k.ensures.0 k.ensures.1
     ∙ ap (λ (x : List ℕ). head (x ++ a.piece.now)) c.first.ensures)

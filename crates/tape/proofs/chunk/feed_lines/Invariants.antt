@@ -1,9 +1,5 @@
 -- `tape::chunk::feed_lines`: so far the bytes before a place are fed and their answers are in the buffer.
 -- Assumes nothing.
--- what is lent stays as long as it was; the head and the place lie in their bounds
--- what was asked at first, and the head of a line at each turn
--- the piece lies in what is left, and that in the chunk
--- a turn goes on where the piece ends before what is left does, and the answer has room; the place after the line's end lies in the chunk
 use borrow.Author.Rules.{rules}
 use native.Mathlib.Omega.{arith}
 use mathlib.Core.Path.{◌≡◌, refl, ap, ◌∙◌}
@@ -21,6 +17,7 @@ use Rattle.answers.proofs.HeldLaws.{Onward, onward_start, onward_line}
 use Rattle.tape.specs.declared.Feed.{Feed}
 use Rattle.tape.specs.Tape.{head, head_limit, Headed, state, loan, held_in, given_by}
 use Rattle.tape.proofs.TapeLaws.{Sofar, sofar_start, sofar_done, turn-stop, turn-line, stops, goes, TapeFacts, tape_facts, tape_sound, lent_after, kept_same, given}
+use Rattle.tape.proofs.TurnLaws.{Bounds}
 use Rattle.tape.proofs.chunk.feed_lines.Given as goal
 
 abbrev pub invariant-loop-from : goal.invariant-loop-from

@@ -1,9 +1,8 @@
 -- `tape::chunk::finish`: what is no tape, an end, and no room for its answer.
 -- Assumes nothing.
--- it is a tape where the first test failed
 use native.Mathlib.Omega.{arith}
 use mathlib.Core.Path.{◌≡◌, sym, ap, ◌∙◌}
-use mathlib.Core.Bool.{Bool, true, ◌&&◌}
+use mathlib.Core.Bool.{Bool, true, false, not, ◌&&◌}
 use Prim.Native.Nat.{◌-◌}
 use lib.Dec.{leb}
 use lib.ListN.{length}
@@ -11,14 +10,12 @@ use borrow.Author.Tests.{leb-true, not-true, not-false}
 use borrow.Author.Rules.{rules}
 use Rattle.base.proofs.Tests.{yes, no, both_true}
 use Rattle.lines.specs.Print.{answer_room}
-use Rattle.tape.specs.Tape.{loan, is_tape, finish_into}
+use Rattle.tape.specs.Tape.{Loan, loan, is_tape, finish_into}
 use Rattle.tape.proofs.chunk.finish.Goals as goal
 
-good :
-    (c : tie.Else1)
-    → let a = c.before.before.before.before.before.before.args in is_tape (loan a.tape a.line.now a.eeprom.now a.id.now) ≡ true
-unfolding is_tape
-good c = sym c.before.is-tape.ensures ∙ not-false c.before.is-tape.result c.if1.false
+-- it is a tape where the first test failed
+good : {r : Bool} (l : Loan) → r ≡ is_tape l → not r ≡ false → is_tape l ≡ true
+good {r} l e h = sym e ∙ not-false r h
 
 pub returns-then-not-good : goal.returns-then-not-good
 unfolding finish_into is_tape
@@ -28,24 +25,25 @@ returns-then-not-good c =
     no _ _ (ap (λ (x : Bool). x && leb answer_room (length a.into.now - a.at)) f)
 
 pub finish_line-requires : goal.finish_line-requires
+unfolding is_tape
 finish_line-requires c =
     let r = c.room-has_room in
     record {
-      id_value = good c;
+      id_value = good (loan c.args.tape c.args.line.now c.args.eeprom.now c.args.id.now) c.is_tape-good.ensures c.if-not-good.false-raw;
       answer_room_in_bounds = omega (arith, leb-true answer_room r.result c.if-has_room.true-raw, r.ensures);
     }
 
 pub returns-then-has_room : goal.returns-then-has_room
-unfolding finish_into
+unfolding finish_into is_tape
 returns-then-has_room c =
     c.finish_line.ensures
-    ∙ yes _ _ (both_true (good c) (ap (leb answer_room) (sym FIXME_r.room.ensures) ∙ FIXME_t.if2.true))
+    ∙ yes _ _ (both_true (good (loan c.args.tape c.args.line.now c.args.eeprom.now c.args.id.now) c.is_tape-good.ensures c.if-not-good.false-raw) (ap (leb answer_room) (sym c.room-has_room.ensures) ∙ c.if-has_room.true-raw))
 
 pub returns : goal.returns
-unfolding finish_into
+unfolding finish_into is_tape
 returns c =
     let a = c.args in
     no _ _
-    (ap (λ (x : Bool). x && leb answer_room (length a.into.now - a.at)) (good c)
+    (ap (λ (x : Bool). x && leb answer_room (length a.into.now - a.at)) (good (loan c.args.tape c.args.line.now c.args.eeprom.now c.args.id.now) c.is_tape-good.ensures c.if-not-good.false-raw)
     ∙ ap (leb answer_room) (sym c.room-has_room.ensures)
     ∙ c.if-has_room.false-raw)

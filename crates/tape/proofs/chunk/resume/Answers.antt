@@ -1,8 +1,9 @@
 -- `tape::chunk::resume`: a chip, and what is none. Lengths and bytes are those that the types say.
 -- Assumes nothing.
--- the code's test is the definition's
 use mathlib.Core.Path.{◌≡◌, sym, ap, ◌∙◌}
-use mathlib.Core.Bool.{not, ◌&&◌}
+use mathlib.Core.Bool.{Bool, not, ◌&&◌}
+use mathlib.Core.List.{List}
+use Prim.Native.Nat.{ℕ}
 use lib.Dec.{eqb}
 use lib.ListN.{length}
 use borrow.Author.Rules.{rules}
@@ -13,36 +14,25 @@ use Rattle.answers.specs.Answer.{ready, eeprom_room}
 use Rattle.tape.specs.Tape.{resumes, start_tape, Typed}
 use Rattle.tape.proofs.chunk.resume.Goals as goal
 
+-- the code's test is the definition's
 tested :
-    (c : tie.After-bytes-in2)
-    → let z = c.before.before.before in
-    let a = z.before.before.before.args in
-    (not (eqb a.part 0) && c.before.before.is-ready.result && (eqb c.before.bytes_in.result eeprom_room && eqb c.bytes-in2.result id_size))
-    ≡ resumes a.part a.device (length a.eeprom.now) (length a.id.now)
+    {r : Bool} {e n : ℕ} {s : Device} (part : ℕ) (d : Device) (ee id : List ℕ) → r ≡ ready part s → s ≡ d → e ≡ length ee → n ≡ length id
+    → (not (eqb part 0) && r && (eqb e eeprom_room && eqb n id_size)) ≡ resumes part d (length ee) (length id)
 unfolding resumes
-tested c =
-    let r = c.before.before.is-ready in
-    let z = c.before.before.before in
-    let a = z.before.before.before.args in
-    λ i. not (eqb a.part 0) && (r.ensures ∙ ap (ready a.part) z.sized.ensures.0) i
-    && (eqb (c.before.bytes_in.ensures.0 i) eeprom_room && eqb (c.bytes-in2.ensures.0 i) id_size)
-
-typed :
-    (c : tie.After-bytes-in2)
-    → let a = c.before.before.before.before.before.before.args in Typed a.device a.eeprom.now a.id.now
-typed c = record { sized = c.before.before.before.sized.ensures.1; eeprom = c.before.bytes_in.ensures.1; id = c.bytes-in2.ensures.1 }
+tested part d ee id r s e n =
+    λ i. not (eqb part 0) && (r ∙ ap (ready part) s) i && (eqb (e i) eeprom_room && eqb (n i) id_size)
 
 pub returns-then-part-ready : goal.returns-then-part-ready
 returns-then-part-ready c =
     record {
       value = ap (λ (d : Device). record { part = c.args.part; device = d; begun = 0 }) c.sized-chip.ensures.0
-          ∙ yes _ start_tape (sym (tested b) ∙ c.if-part-ready.true);
-      typed = typed b;
+          ∙ yes _ start_tape (sym (tested c.args.part c.args.device c.args.eeprom.now c.args.id.now c.is_ready-ready.ensures c.sized-chip.ensures.0 c.bytes_in.ensures.0 c.bytes_in-2.ensures.0) ∙ c.if-part-ready.true);
+      typed = record { sized = c.sized-chip.ensures.1; eeprom = c.bytes_in.ensures.1; id = c.bytes_in-2.ensures.1 };
     }
 
 pub returns : goal.returns
 returns c =
     record {
-      value = c.start.ensures ∙ no _ start_tape (sym (tested b) ∙ c.if-part-ready.false);
-      typed = typed b;
+      value = c.start.ensures ∙ no _ start_tape (sym (tested c.args.part c.args.device c.args.eeprom.now c.args.id.now c.is_ready-ready.ensures c.sized-chip.ensures.0 c.bytes_in.ensures.0 c.bytes_in-2.ensures.0) ∙ c.if-part-ready.false);
+      typed = record { sized = c.sized-chip.ensures.1; eeprom = c.bytes_in.ensures.1; id = c.bytes_in-2.ensures.1 };
     }
