@@ -1,9 +1,9 @@
 // What --help tells, in seven pieces, and --version. A text is written as it stands. Each function answers whether standard
 // output took it.
+use std::io;
 
-fn print_use() -> bool {
-    io::write_all(
-        libc::STDOUT_FILENO,
+fn print_use(rt: HostRuntime) -> io::Result<()> {
+    rt.write_all(
         b"Use: mcp795 [--load FILE] [--save FILE] [TAPE...]
 
 Answers each tape as an MCP795XX clock chip would. A TAPE is a file, or - for
@@ -23,9 +23,8 @@ the input.
     )
 }
 
-fn print_files() -> bool {
-    io::write_all(
-        libc::STDOUT_FILENO,
+fn print_files(rt: HostRuntime) -> io::Result<()> {
+    rt.write_all(
         b"
 With --load or --save there is one tape at most. A tape that starts with a saved
 chip has its part: every line that names one is refused. A FILE that is no saved
@@ -39,9 +38,8 @@ before the tape is answered.
     )
 }
 
-fn print_form() -> bool {
-    io::write_all(
-        libc::STDOUT_FILENO,
+fn print_form(rt: HostRuntime) -> io::Result<()> {
+    rt.write_all(
         b"
 A tape has a line for each act:
 
@@ -54,9 +52,8 @@ a carriage return is a character like any other, and makes its line bad.
     )
 }
 
-fn print_acts() -> bool {
-    io::write_all(
-        libc::STDOUT_FILENO,
+fn print_acts(rt: HostRuntime) -> io::Result<()> {
+    rt.write_all(
         b"
     NAME    N              what happens
     part    1 to 4         a fresh chip: 1 W 1 Kbit, 2 W 2 Kbit, 3 B 1 Kbit,
@@ -77,9 +74,8 @@ fn print_acts() -> bool {
     )
 }
 
-fn print_answers() -> bool {
-    io::write_all(
-        libc::STDOUT_FILENO,
+fn print_answers(rt: HostRuntime) -> io::Result<()> {
+    rt.write_all(
         b"
 Each line gives one answer, written before the program waits for more input:
 
@@ -95,9 +91,8 @@ Each line gives one answer, written before the program waits for more input:
     )
 }
 
-fn print_refusals() -> bool {
-    io::write_all(
-        libc::STDOUT_FILENO,
+fn print_refusals(rt: HostRuntime) -> io::Result<()> {
+    rt.write_all(
         b"
     R  refused because
     1  select, and a frame is open already
@@ -126,9 +121,8 @@ the part, 4, 6, 3, 5, then 1 or 2.
     )
 }
 
-fn print_problems() -> bool {
-    io::write_all(
-        libc::STDOUT_FILENO,
+fn print_problems(rt: HostRuntime) -> io::Result<()> {
+    rt.write_all(
         b"
 What cannot be read, written or understood is told on standard error, a line for
 each:
@@ -146,32 +140,17 @@ is 128 and the signal's number where a signal ended the program.
     )
 }
 
-pub fn print() -> bool {
-    if !print_use() {
-        return false;
-    }
-    if !print_files() {
-        return false;
-    }
-    if !print_form() {
-        return false;
-    }
-    if !print_acts() {
-        return false;
-    }
-    if !print_answers() {
-        return false;
-    }
-    if !print_refusals() {
-        return false;
-    }
-    print_problems()
+pub fn print(rt: HostRuntime) -> io::Result<()> {
+    print_use(rt)?;
+    print_files(rt)?;
+    print_form(rt)?;
+    print_acts(rt)?;
+    print_answers(rt)?;
+    print_refusals(rt)?;
+    print_problems(rt)
 }
 
 // The version of this copy, and the kit as `rt version` names it: .ci/run compares the two.
-pub fn print_version() -> bool {
-    io::write_all(
-        libc::STDOUT_FILENO,
-        b"mcp795 1.0, proved with rattle-kit-5b-plain logic 097e4c862dff5811\n",
-    )
+pub fn print_version(rt: HostRuntime) -> io::Result<()> {
+    rt.write_all(b"mcp795 1.0, proved with rattle-kit-13f logic dac8208d650f15bf\n")
 }

@@ -2,18 +2,18 @@
 // none.
 ghost use Rattle.std.specs.Prelude.{◌≤◌, ◌≡◌, length};
 
-use crate::file::Got;
-use crate::run::Reading;
-use crate::{file, run};
+use crate::file::{Got, NAME_ROOM};
+use crate::run::{Reader, Reading};
+use crate::{Output, file, run};
 use record::Device;
 use saved::Loaded;
 use tape::Tape;
 use text::bytes;
 
-// A tape that was opened, and the length of its name.
-#[derive(Clone, Copy)]
+// A tape that was opened, if it was, and the length of its name.
+#[derive(Drop)]
 struct Source {
-    fd: i32,
+    reader: Option<Reader>,
     length: usize,
 }
 
@@ -24,49 +24,55 @@ const TEXT_ROOM: usize = 8192;
 const SMALLER: usize = 128;
 
 // The text of a file, as much of it as there is room for.
-fn read_argument(load: usize, text: &mut [u8]) -> Got {
-    let mut space = io::buffer();
-    let n = os::arg(load, &mut space);
-    if os::errno() != 0 {
-        crate::tell_argument(load);
-        return Got {
-            good: false,
-            length: 0,
-        };
+fn read_argument(rt: HostRuntime, load: usize, text: &mut [u8]) -> Got {
+    let mut space = [0u8; NAME_ROOM];
+    match crate::argument(rt, load, &mut space) {
+        Ok(n) => file::read(rt, &space[..n], text),
+        Err(error) => {
+            crate::tell_argument(rt, load, &error);
+            Got {
+                good: false,
+                length: 0,
+            }
+        }
     }
-    file::read(&space[..n], text)
 }
 
 // Whether a file can be replaced, as far as can be seen before the tape is answered.
-fn can_save(save: usize) -> bool {
+fn can_save(rt: HostRuntime, save: usize) -> bool {
     if save == 0 {
         return true;
     }
-    let mut space = io::buffer();
-    let n = os::arg(save, &mut space);
-    if os::errno() != 0 {
-        crate::tell_argument(save);
-        return false;
+    let mut space = [0u8; NAME_ROOM];
+    match crate::argument(rt, save, &mut space) {
+        Ok(n) => file::can_replace(rt, &space[..n]),
+        Err(error) => {
+            crate::tell_argument(rt, save, &error);
+            false
+        }
     }
-    file::can_replace(&space[..n])
 }
 
 // Puts a text in the place of a file.
-fn save_text(save: usize, text: &[u8]) {
-    let mut space = io::buffer();
-    let n = os::arg(save, &mut space);
-    file::replace(&space[..n], text);
+fn save_text(rt: HostRuntime, save: usize, text: &[u8]) {
+    let mut space = [0u8; NAME_ROOM];
+    match crate::argument(rt, save, &mut space) {
+        Ok(n) => {
+            file::replace(rt, &space[..n], text);
+        }
+        Err(error) => crate::tell_argument(rt, save, &error),
+    }
 }
 
 // Tells by which number a chip is refused, and which line of its file is the first bad one, where there is one.
-fn tell_refused(place: usize, number: u8, line: usize) {
-    crate::tell_argument_text(place, b": refused by ");
-    io::print_decimal(libc::STDERR_FILENO, number as u64);
+fn tell_refused(rt: HostRuntime, place: usize, number: u8, line: usize) {
+    crate::tell_argument_text(rt, place, b": refused by ");
+    crate::tell_number(rt, number as u64);
     if 0 < line {
-        io::write_all(libc::STDERR_FILENO, b", line ");
-        io::print_decimal(libc::STDERR_FILENO, line as u64);
+        crate::tell_more(rt, b", line ");
+        crate::tell_number(rt, line as u64);
     }
-    io::write_all(libc::STDERR_FILENO, b"\n");
+    crate::tell_more(rt, b"\n");
 }
 
 // The chip of a text. The memories are lent in the lengths of the larger parts, and where these are not the text's in those of the smaller.
@@ -82,9 +88,9 @@ fn load_chip(text: &[u8], eeprom: &mut [u8], id: &mut [u8]) -> Loaded
 }
 
 // Saves the chip of a tape that was answered to its end.
-fn save_chip(save: usize, tape: Tape, eeprom: &[u8], id: &[u8]) {
+fn save_chip(rt: HostRuntime, save: usize, tape: Tape, eeprom: &[u8], id: &[u8]) {
     if tape.part == 0 {
-        crate::tell_argument_text(save, b": nothing to save: the tape names no part\n");
+        crate::tell_argument_text(rt, save, b": nothing to save: the tape names no part\n");
         return;
     }
     let size = record::part::size(tape.part) as usize;
@@ -98,123 +104,141 @@ fn save_chip(save: usize, tape: Tape, eeprom: &[u8], id: &[u8]) {
         &mut text,
     );
     if saved.number != 0 {
-        tell_refused(save, saved.number, saved.line);
+        tell_refused(rt, save, saved.number, saved.line);
         return;
     }
-    save_text(save, bytes::first(&text, saved.length));
+    save_text(rt, save, bytes::first(&text, saved.length));
 }
 
 // Tells that the file stays as it was, where there is one.
-fn tell_unsaved(save: usize) {
+fn tell_unsaved(rt: HostRuntime, save: usize) {
     if 0 < save {
-        crate::tell_argument_text(save, b": not saved: the tape was not answered to its end\n");
+        crate::tell_argument_text(rt, save, b": not saved: the tape was not answered to its end\n");
     }
 }
 
 // Saves the chip of a tape. Where the tape was not answered to its end, the file stays as it was, and the tape can be answered again from what it began with.
-fn save_ran(save: usize, ran: Reading, eeprom: &[u8], id: &[u8]) {
+fn save_ran(rt: HostRuntime, save: usize, ran: Reading, eeprom: &[u8], id: &[u8]) {
+    if ran.open == Output::Unread {
+        return;
+    }
     if !ran.whole {
-        tell_unsaved(save);
+        tell_unsaved(rt, save);
         return;
     }
     if 0 < save {
         let tape = ran.tape;
-        save_chip(save, tape, eeprom, id);
+        save_chip(rt, save, tape, eeprom, id);
     }
 }
 
 // Answers a tape that begins with a chip, and saves the chip that it leaves.
 fn run_open(
-    fd: i32,
+    rt: HostRuntime,
+    reader: &mut Reader,
     name: &[u8],
     save: usize,
     part: u64,
     device: Device,
     eeprom: &mut [u8],
     id: &mut [u8],
-)
+) -> Output
     requires eeprom_len { length eeprom.old ≡ 256 }
     requires id_len { length id.old ≡ 16 }
 {
-    let ran = run::run_tape(fd, name, part, device, eeprom, id);
-    save_ran(save, ran, eeprom, id);
+    let ran = run::run_tape(rt, reader, name, part, device, eeprom, id);
+    save_ran(rt, save, ran, eeprom, id);
+    ran.open
 }
 
 // Opens the tape of an argument, or standard input, the dash, where there is none. The name is put into the array that is lent.
-fn open_argument(tape: usize, space: &mut [u8]) -> Source
+fn open_argument(rt: HostRuntime, tape: usize, space: &mut [u8]) -> Source
     requires { 1 ≤ length space.old }
 {
     if tape == 0 {
         space[0] = b'-';
         return Source {
-            fd: libc::STDIN_FILENO,
+            reader: Some(Reader::Input(rt.stdin())),
             length: 1,
         };
     }
-    let n = os::arg(tape, space);
-    if os::errno() != 0 {
-        crate::tell_argument(tape);
-        return Source { fd: -1, length: 0 };
+    match crate::argument(rt, tape, space) {
+        Ok(n) => Source {
+            reader: run::open(rt, bytes::first(space, n)),
+            length: n,
+        },
+        Err(error) => {
+            crate::tell_argument(rt, tape, &error);
+            Source {
+                reader: None,
+                length: 0,
+            }
+        }
     }
-    let fd = run::open(bytes::first(space, n));
-    Source { fd, length: n }
 }
 
 // The same by the place of the tape's argument, once it is seen that its chip can be saved.
-fn run_chip(save: usize, tape: usize, part: u64, device: Device, eeprom: &mut [u8], id: &mut [u8])
+fn run_chip(
+    rt: HostRuntime,
+    save: usize,
+    tape: usize,
+    part: u64,
+    device: Device,
+    eeprom: &mut [u8],
+    id: &mut [u8],
+) -> Output
     requires eeprom_len { length eeprom.old ≡ 256 }
     requires id_len { length id.old ≡ 16 }
 {
-    if !can_save(save) {
-        return;
+    if !can_save(rt, save) {
+        return Output::Open;
     }
-    let mut space = io::buffer();
-    let source = open_argument(tape, &mut space);
-    if source.fd < 0 {
-        tell_unsaved(save);
-        return;
+    let mut space = [0u8; NAME_ROOM];
+    let source = open_argument(rt, tape, &mut space);
+    match source.reader {
+        Some(reader) => {
+            let mut reader = reader;
+            let name = bytes::first(&space, source.length);
+            let open = run_open(rt, &mut reader, name, save, part, device, eeprom, id);
+            run::close(reader);
+            open
+        }
+        None => {
+            tell_unsaved(rt, save);
+            Output::Open
+        }
     }
-    run_open(
-        source.fd,
-        bytes::first(&space, source.length),
-        save,
-        part,
-        device,
-        eeprom,
-        id,
-    );
-    run::close(source.fd);
 }
 
 // Answers a tape that begins with the chip of a text.
-fn run_text(load: usize, text: &[u8], save: usize, tape: usize) {
+fn run_text(rt: HostRuntime, load: usize, text: &[u8], save: usize, tape: usize) -> Output {
     let mut eeprom = [0u8; tape::chunk::EEPROM_ROOM];
     let mut id = [0u8; tape::chunk::ID_SIZE];
     let loaded = load_chip(text, &mut eeprom, &mut id);
     if loaded.number != 0 {
-        tell_refused(load, loaded.number, loaded.line);
-        return;
+        tell_refused(rt, load, loaded.number, loaded.line);
+        return Output::Open;
     }
     let device = loaded.device;
-    run_chip(save, tape, loaded.part, device, &mut eeprom, &mut id);
+    run_chip(rt, save, tape, loaded.part, device, &mut eeprom, &mut id)
 }
 
 // Answers a tape that begins without a part.
-fn run_new(save: usize, tape: usize) {
+fn run_new(rt: HostRuntime, save: usize, tape: usize) -> Output {
     let mut eeprom = [0u8; tape::chunk::EEPROM_ROOM];
     let mut id = [0u8; tape::chunk::ID_SIZE];
-    run_chip(save, tape, 0, record::fresh_device(), &mut eeprom, &mut id);
+    run_chip(rt, save, tape, 0, record::fresh_device(), &mut eeprom, &mut id)
 }
 
-// Answers one tape, whose chip is loaded, or saved, or both.
-pub fn run_kept(load: usize, save: usize, tape: usize) {
+// Answers one tape, whose chip is loaded, or saved, or both. The answer is whether standard output still takes answers.
+pub fn run_kept(rt: HostRuntime, load: usize, save: usize, tape: usize) -> Output {
     if load == 0 {
-        run_new(save, tape);
-        return;
+        return run_new(rt, save, tape);
     }
     let mut text = [0u8; TEXT_ROOM];
-    let got = read_argument(load, &mut text);
-    if got.good {
-        run_text(load, bytes::first(&text, got.length), save, tape);
+    let got = read_argument(rt, load, &mut text);
+    if !got.good {
+        return Output::Open;
     }
+    run_text(rt, load, bytes::first(&text, got.length), save, tape)
 }

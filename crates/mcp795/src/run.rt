@@ -1,10 +1,15 @@
-// One tape, from a descriptor to standard output. All answers to what has been read are written before more is read.
+// One tape, from a file or standard input to standard output. All answers to what has been read are written before more is read.
 ghost use Rattle.std.specs.Prelude.{◌*◌, ◌≤◌, ◌≡◌, false, length};
+ghost use Rattle.std.specs.Io.{ReadsAtMost};
 ghost use Rattle.lines.specs.Print.{answer_room};
 ghost use Rattle.tape.specs.Tape.{loan};
 ghost use Rattle.mcp795.specs.Reading.{IsFed, FeedsAll, Ends, FeedsRead, FedOn, RunsFrom};
 
+use crate::{Output, file};
 use record::Device;
+use std::fs::File;
+use std::io;
+use std::io::{Read, Stdin};
 use tape::{Feed, Tape};
 use text::bytes;
 
@@ -12,6 +17,23 @@ use text::bytes;
 const INPUT_ROOM: usize = 4096;
 
 const OUT_ROOM: usize = INPUT_ROOM * codec::print::ANSWER_ROOM;
+
+// Where a tape is read from: standard input, or a file.
+#[derive(Drop)]
+pub enum Reader {
+    Input(Stdin),
+    File(File),
+}
+
+// Reads once, and answers how many bytes came, 0 at the end.
+fn read(reader: &mut Reader, input: &mut [u8]) -> io::Result<usize>
+    ensures { ReadsAtMost result input.new }
+{
+    match reader {
+        Reader::Input(stdin) => stdin.read(input),
+        Reader::File(file) => file.read(input),
+    }
+}
 
 // A tape between two reads: how far it has come, how many bytes of answers the last read put out, whether to read on, whether it was read and answered to
 // its end, and whether standard output takes answers.
@@ -21,38 +43,35 @@ pub struct Reading {
     pub put: usize,
     pub more: bool,
     pub whole: bool,
-    pub open: bool,
+    pub open: Output,
 }
 
 // Writes answers, and tells where that fails.
-fn write_answers(answers: &[u8]) -> bool {
-    let written = io::write_all(libc::STDOUT_FILENO, answers);
-    if written {
-        return true;
-    }
-    crate::tell(b"standard output");
-    false
+fn write_answers(rt: HostRuntime, answers: &[u8]) -> Output {
+    crate::taken(rt, rt.write_all(answers))
 }
 
 // Writes the answers that a call put at the output's beginning. There is more to read if the tape has more and standard output takes answers.
-fn put_out(fed: Feed, out: &[u8], more: bool) -> Reading
+fn put_out(rt: HostRuntime, fed: Feed, out: &[u8], more: bool) -> Reading
     ensures tape_value { (result.tape ≡ fed.tape) × (result.put ≡ fed.at) }
     ensures more_value { more ≡ false → result.more ≡ false }
 {
     let put = fed.at;
-    let open = write_answers(bytes::first(out, put));
+    let open = write_answers(rt, bytes::first(out, put));
+    let takes = crate::is_open(open);
     let tape = fed.tape;
     Reading {
         tape,
         put,
-        more: more & open,
-        whole: !more & open,
+        more: more & takes,
+        whole: !more & takes,
         open,
     }
 }
 
 // Answers what was read.
 fn answer(
+    rt: HostRuntime,
     chunk: &[u8],
     before: Tape,
     line: &mut [u8],
@@ -66,11 +85,12 @@ fn answer(
         (loan result.tape line.new eeprom.new id.new) out.new result.put }
 {
     let fed = tape::chunk::feed(chunk, before, line, eeprom, id, out, 0);
-    put_out(fed, out, true)
+    put_out(rt, fed, out, true)
 }
 
 // The end of a tape: its last line may have no newline.
 fn finish(
+    rt: HostRuntime,
     before: Tape,
     line: &mut [u8],
     eeprom: &mut [u8],
@@ -82,21 +102,22 @@ fn finish(
         (loan result.tape line.new eeprom.new id.new) out.new result.put }
 {
     let last = tape::chunk::finish(before, line, eeprom, id, out, 0);
-    put_out(last, out, false)
+    put_out(rt, last, out, false)
 }
 
 // Tells that a tape cannot be read.
-fn tell_unread(name: &[u8]) {
-    if check::same(name, b"-") {
-        crate::tell(b"standard input");
+fn tell_unread(rt: HostRuntime, name: &[u8], error: &io::Error) {
+    if bytes::is_word(b"-", name) {
+        crate::tell(rt, b"standard input", error);
         return;
     }
-    crate::tell(name);
+    crate::tell(rt, name, error);
 }
 
 // Reads once, and answers what came.
 fn read_once(
-    fd: i32,
+    rt: HostRuntime,
+    reader: &mut Reader,
     name: &[u8],
     before: Tape,
     input: &mut [u8],
@@ -110,27 +131,30 @@ fn read_once(
     ensures { FeedsRead (loan before line.old eeprom.old id.old) out.old input.new
         (loan result.tape line.new eeprom.new id.new) out.new result.put result.more }
 {
-    let got = libc::read(fd, input);
-    if got < 0 {
-        tell_unread(name);
-        return Reading {
-            tape: before,
-            put: 0,
-            more: false,
-            whole: false,
-            open: true,
-        };
+    match read(reader, input) {
+        Ok(n) => {
+            if n == 0 {
+                return finish(rt, before, line, eeprom, id, out);
+            }
+            answer(rt, &input[..n], before, line, eeprom, id, out)
+        }
+        Err(error) => {
+            tell_unread(rt, name, &error);
+            Reading {
+                tape: before,
+                put: 0,
+                more: false,
+                whole: false,
+                open: Output::Open,
+            }
+        }
     }
-    if got == 0 {
-        return finish(before, line, eeprom, id, out);
-    }
-    let n = io::count(got, input);
-    answer(&input[..n], before, line, eeprom, id, out)
 }
 
 // Reads to the end. The turns are counted down from a number that no run uses up, so the loop ends.
 fn read_all(
-    fd: i32,
+    rt: HostRuntime,
+    reader: &mut Reader,
     name: &[u8],
     before: Tape,
     input: &mut [u8],
@@ -148,7 +172,7 @@ fn read_all(
         put: 0,
         more: true,
         whole: false,
-        open: true,
+        open: Output::Open,
     };
     let mut turns = u64::MAX;
     while 0 < turns {
@@ -156,15 +180,16 @@ fn read_all(
             return reading;
         }
         let tape = reading.tape;
-        reading = read_once(fd, name, tape, input, line, eeprom, id, out);
+        reading = read_once(rt, reader, name, tape, input, line, eeprom, id, out);
         turns -= 1;
     }
     reading
 }
 
-// Answers the tape of a descriptor. It begins with a chip, or without a part where that is 0.
+// Answers the tape of a reader. It begins with a chip, or without a part where that is 0.
 pub fn run_tape(
-    fd: i32,
+    rt: HostRuntime,
+    reader: &mut Reader,
     name: &[u8],
     part: u64,
     device: Device,
@@ -180,44 +205,46 @@ pub fn run_tape(
     let mut line = [0u8; tape::chunk::HEAD_LIMIT];
     let before = tape::chunk::resume(part, device, eeprom, id);
     read_all(
-        fd, name, before, &mut input, &mut line, eeprom, id, &mut out,
+        rt, reader, name, before, &mut input, &mut line, eeprom, id, &mut out,
     )
 }
 
-// The descriptor of a tape, by its name; below 0 where it cannot be opened, and that has been told. The dash is standard input.
-pub fn open(name: &[u8]) -> i32 {
-    if check::same(name, b"-") {
-        return libc::STDIN_FILENO;
+// Where a tape is read from, by its name; nothing where it cannot be opened, and that has been told. The dash is standard input.
+pub fn open(rt: HostRuntime, name: &[u8]) -> Option<Reader> {
+    if bytes::is_word(b"-", name) {
+        return Some(Reader::Input(rt.stdin()));
     }
-    let fd = os::open_read(name);
-    if fd < 0 {
-        crate::tell(name);
+    match file::open_read(rt, name) {
+        Ok(file) => Some(Reader::File(file)),
+        Err(error) => {
+            crate::tell(rt, name, &error);
+            None
+        }
     }
-    fd
 }
 
 // Closes the tape, unless it is standard input.
-pub fn close(fd: i32) {
-    if fd != libc::STDIN_FILENO {
-        libc::close(fd);
-    }
+pub fn close(reader: Reader) {
+    drop(reader);
 }
 
 // Answers a tape that begins without a part.
-fn run_fresh(fd: i32, name: &[u8]) -> bool {
+fn run_fresh(rt: HostRuntime, reader: &mut Reader, name: &[u8]) -> Output {
     let mut eeprom = [0u8; tape::chunk::EEPROM_ROOM];
     let mut id = [0u8; tape::chunk::ID_SIZE];
-    let ran = run_tape(fd, name, 0, record::fresh_device(), &mut eeprom, &mut id);
+    let ran = run_tape(rt, reader, name, 0, record::fresh_device(), &mut eeprom, &mut id);
     ran.open
 }
 
 // Answers a tape by its name, which begins without a part. The answer is whether standard output still takes answers.
-pub fn run_new(name: &[u8]) -> bool {
-    let fd = open(name);
-    if fd < 0 {
-        return true;
+pub fn run_new(rt: HostRuntime, name: &[u8]) -> Output {
+    match open(rt, name) {
+        Some(reader) => {
+            let mut reader = reader;
+            let takes = run_fresh(rt, &mut reader, name);
+            close(reader);
+            takes
+        }
+        None => Output::Open,
     }
-    let takes = run_fresh(fd, name);
-    close(fd);
-    takes
 }
