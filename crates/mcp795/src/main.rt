@@ -108,7 +108,7 @@ fn begin_with_argument(rt: HostRuntime, i: usize) {
     match argument(rt, i, &mut space) {
         Ok(n) => begin_line(rt, &space[..n]),
         Err(_) => {
-            begin_line(rt, &space[..BEGINNING]);
+            begin_line(rt, bytes::first(&space, BEGINNING));
             tell_more(rt, b"..");
         }
     }
