@@ -1,0 +1,8 @@
+-- By the promise of the tape's `feed`, whose output has room for all answers.
+use Rattle.mcp795.proofs.ReadingLaws.{taken_over, all_fed}
+use Rattle.mcp795.proofs.run.answer.Goals as goal
+
+pub returns : goal.returns
+returns c =
+    all_fed _ _ _ c.args.out.now _ _ c.requires.chunk_in_bounds
+    (taken_over c.feed-fed.result _ _ _ _ _ _ c.put_out.ensures.tape_value c.feed-fed.ensures)
