@@ -113,7 +113,11 @@ fn save_chip(rt: HostRuntime, save: usize, tape: Tape, eeprom: &[u8], id: &[u8])
 // Tells that the file stays as it was, where there is one.
 fn tell_unsaved(rt: HostRuntime, save: usize) {
     if 0 < save {
-        crate::tell_argument_text(rt, save, b": not saved: the tape was not answered to its end\n");
+        crate::tell_argument_text(
+            rt,
+            save,
+            b": not saved: the tape was not answered to its end\n",
+        );
     }
 }
 
@@ -227,7 +231,15 @@ fn run_text(rt: HostRuntime, load: usize, text: &[u8], save: usize, tape: usize)
 fn run_new(rt: HostRuntime, save: usize, tape: usize) -> Output {
     let mut eeprom = [0u8; tape::chunk::EEPROM_ROOM];
     let mut id = [0u8; tape::chunk::ID_SIZE];
-    run_chip(rt, save, tape, 0, record::fresh_device(), &mut eeprom, &mut id)
+    run_chip(
+        rt,
+        save,
+        tape,
+        0,
+        record::fresh_device(),
+        &mut eeprom,
+        &mut id,
+    )
 }
 
 // Answers one tape, whose chip is loaded, or saved, or both. The answer is whether standard output still takes answers.

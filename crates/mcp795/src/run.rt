@@ -232,7 +232,15 @@ pub fn close(reader: Reader) {
 fn run_fresh(rt: HostRuntime, reader: &mut Reader, name: &[u8]) -> Output {
     let mut eeprom = [0u8; tape::chunk::EEPROM_ROOM];
     let mut id = [0u8; tape::chunk::ID_SIZE];
-    let ran = run_tape(rt, reader, name, 0, record::fresh_device(), &mut eeprom, &mut id);
+    let ran = run_tape(
+        rt,
+        reader,
+        name,
+        0,
+        record::fresh_device(),
+        &mut eeprom,
+        &mut id,
+    );
     ran.open
 }
 
