@@ -157,7 +157,7 @@ pub fn tell_argument_text(rt: HostRuntime, i: usize, text: &[u8]) {
 }
 
 // How standard output took a text. Where it did not, that is told, but where nobody reads it any more.
-pub fn taken(rt: HostRuntime, written: io::Result<()>) -> Output {
+pub fn tell_unless(rt: HostRuntime, written: io::Result<()>) -> Output {
     match written {
         Ok(()) => Output::Open,
         Err(error) => {
@@ -293,10 +293,10 @@ fn ask_all(rt: HostRuntime, count: usize) -> Asked {
 
 fn obey_option(rt: HostRuntime, i: usize) -> Output {
     if is_word(rt, i, b"--help") | is_word(rt, i, b"-h") {
-        return taken(rt, help::print(rt));
+        return tell_unless(rt, help::print(rt));
     }
     if is_word(rt, i, b"--version") {
-        return taken(rt, help::print_version(rt));
+        return tell_unless(rt, help::print_version(rt));
     }
     tell_argument_text(rt, i, b": unknown option (--help tells the use)\n");
     Output::Open

@@ -48,7 +48,7 @@ pub struct Reading {
 
 // Writes answers, and tells where that fails.
 fn write_answers(rt: HostRuntime, answers: &[u8]) -> Output {
-    crate::taken(rt, rt.write_all(answers))
+    crate::tell_unless(rt, rt.write_all(answers))
 }
 
 // Writes the answers that a call put at the output's beginning. There is more to read if the tape has more and standard output takes answers.
