@@ -163,16 +163,16 @@ module _ (line : List ℕ) (s : Setup) where
       (λ t.
       placed_judged g (rw a (part_below arg s t))
       (λ column row. ⊎_elim (λ x. not_both (sym e ∙ listed_asks line row.form (ActName x.0) x.1.0 g)) (λ x. true≢false (sym t ∙ x.1)) row.wrong)
-      (part-never t)
+      (part_never t)
       (a ∙ sym (yes _ (misplaced s) t) ∙ yes _ (refused_line 7 s) t ∙ sym b))
       (λ f.
       misplaced_judged g (a ∙ sym (no _ (misplaced s) f)) (record { form = w.0; wrong = inr (w.1, f); at = refl }) (again arg e f)
       (b ∙ sym (no _ (refused_line 7 s) f)))
     where
-      part-never : no_part s ≡ true → SevenRow line s → ⊥
-      part-never t (bad b) = true≢false (sym b ∙ sym (bad_as_before line) ∙ ap is_bad e)
-      part-never t (early act m q u) = not_both (sym e ∙ q)
-      part-never t (again m q f) = true≢false (sym t ∙ f)
+      part_never : no_part s ≡ true → SevenRow line s → ⊥
+      part_never t (bad b) = true≢false (sym b ∙ sym (bad_as_before line) ∙ ap is_bad e)
+      part_never t (early act m q u) = not_both (sym e ∙ q)
+      part_never t (again m q f) = true≢false (sym t ∙ f)
 
   act_judged : (act : Act) (arg : ℕ) → request_of line ≡ ActLine act arg → Judged line s
   act_judged act arg e =
@@ -188,13 +188,13 @@ module _ (line : List ℕ) (s : Setup) where
       (λ f.
       placed_judged g (rw a (act_below act arg s f))
       (λ column row. ⊎_elim (λ x. true≢false (sym x.1.1 ∙ f)) (λ x. not_both (sym (listed_asks line row.form PartName x.0 g) ∙ e)) row.wrong)
-      (act-never f)
+      (act_never f)
       (a ∙ sym (no (misplaced s) o f) ∙ no (refused_line 7 s) o f ∙ sym b))
     where
-      act-never : no_part s ≡ false → SevenRow line s → ⊥
-      act-never f (bad b) = true≢false (sym b ∙ sym (bad_as_before line) ∙ ap is_bad e)
-      act-never f (early act m q t) = true≢false (sym t ∙ f)
-      act-never f (again m q t) = not_both (sym q ∙ e)
+      act_never : no_part s ≡ false → SevenRow line s → ⊥
+      act_never f (bad b) = true≢false (sym b ∙ sym (bad_as_before line) ∙ ap is_bad e)
+      act_never f (early act m q t) = true≢false (sym t ∙ f)
+      act_never f (again m q t) = not_both (sym q ∙ e)
 
   judged : (r : Request) → request_of line ≡ r → Judged line s
   judged (PartLine arg) e = part_judged arg e

@@ -1,6 +1,6 @@
 -- A caller's arrays: what is read from a state array, and what is put into it.
 -- Assumes nothing.
-use mathlib.Core.Path.{◌≡◌, refl, sym, ap, subst, ◌∙◌}
+use mathlib.Core.Path.{◌≡◌, refl, sym, ap, ◌∙◌}
 use mathlib.Core.Bool.{true}
 use mathlib.Core.List.{List, [], ◌∷◌, ◌++◌, append-nil, append_assoc}
 use Prim.Native.Nat.{ℕ, ◌+◌, ◌<◌, ◌≤◌}
@@ -18,13 +18,13 @@ use Rattle.record.specs.declared.Stage.{Stage}
 use Rattle.record.specs.declared.Target.{Target}
 use Rattle.record.specs.Numbers.{protection_of, lock_of, stage_of, target_of}
 use Rattle.record.specs.World.{Sized}
-use Rattle.text.specs.Buffer.{Buffer, buffer, append}
+use Rattle.text.specs.Buffer.{buffer, append}
 use Rattle.text.proofs.BufferLaws.{put_then, room_then}
 use Rattle.form.specs.Chip.{tail_numbers, is_record, device_of}
 use Rattle.form.specs.Facts.{StateFacts}
 use Rattle.form.specs.State.{count_at, head_bytes, event_bytes, array_numbers, state_bytes, is_state, state_of}
 use Rattle.form.proofs.FactLaws.{recorded_facts}
-use Rattle.form.proofs.StateLaws.{low_at, count_at_lem, high_at, event_at_lem, registers_in, sram_in, load_in}
+use Rattle.form.proofs.StateLaws.{count_at_lem, high_at, event_at_lem, registers_in, sram_in, load_in}
 use Rattle.numbers.proofs.ChipLaws.{Fields, fields, EventFields, event_fields}
 use Rattle.saved.proofs.AnswerLaws.{put_over}
 

@@ -1,22 +1,22 @@
 -- The tests of code hold of a state array exactly where the table's do.
 -- Assumes nothing.
-use mathlib.Core.Path.{◌≡◌, refl, sym, ap, subst, ◌∙◌}
+use mathlib.Core.Path.{◌≡◌, refl, sym, ap, ◌∙◌}
 use mathlib.Core.Logic.{◌≢◌, ⊎_elim}
 use mathlib.Core.Bool.{Bool, true, false, not, ◌&&◌, ◌||◌}
 use mathlib.Core.List.{List, [], ◌∷◌}
-use Prim.Native.Nat.{ℕ, ◌+◌, ◌<◌, ◌≤◌}
+use Prim.Native.Nat.{ℕ, ◌+◌, ◌<◌}
 use native.Mathlib.Omega.{arith}
 use native.Mathlib.Numerals.{add-one}
 use borrow.Author.Tests.{lt-ltb, ltb-true, ltb-false, leb-false, leb-true, eqb-true, eq-eqb, ne_eqb, not-false}
 use lib.Dec.{ltb, leb, eqb}
 use lib.Bits.{bit_and}
 use lib.ListN.{length, get_or}
-use Rattle.base.specs.Words.{pick, bit, every, any_of}
+use Rattle.base.specs.Words.{bit, every, any_of}
 use Rattle.base.proofs.Tests.{by_cases, true_false, either, neither_left, neither_right, none_holds, some_holds}
 use Rattle.base.proofs.Every.{every_at, every_all, same_below}
 use Rattle.record.specs.Numbers.{stage_of}
 use Rattle.record.specs.Part.{is_part, size_of, boots_of}
-use Rattle.record.specs.Registers.{kept, writable, power_down_at, event_at, period_of, divider_ticks, long_pulse, delay_ticks}
+use Rattle.record.specs.Registers.{kept, power_down_at, event_at, period_of, divider_ticks, long_pulse, delay_ticks}
 use Rattle.record.specs.Stages.{foreign_to_wip}
 use Rattle.record.specs.World.{Bytes}
 use Rattle.record.proofs.StampLaws.{same_masks, stamp_mask}

@@ -1,6 +1,6 @@
 -- Answers and refusals of a caller's arrays as numbers, written out from the rules: a second statement beside the contracts. Each computes.
 -- Assumes nothing.
-use Rattle.std.specs.Prelude.{◌≡◌, refl, true, false, List, [], ◌∷◌, set}
+use Rattle.std.specs.Prelude.{◌≡◌, refl, true, false, [], ◌∷◌, set}
 use Rattle.events.specs.Control.{pulls_irq}
 use Rattle.record.specs.declared.Device.{Device}
 use Rattle.record.specs.declared.Reply.TheVariants.{Driven, Off}

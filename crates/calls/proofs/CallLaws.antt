@@ -1,8 +1,8 @@
 -- Laws of the calls, by the case that code is in.
 -- Assumes nothing.
-use mathlib.Core.Path.{◌≡◌, refl, sym, ap, subst, ◌∙◌}
+use mathlib.Core.Path.{◌≡◌, refl, sym, ap, ◌∙◌}
 use mathlib.Core.Logic.{◌≢◌}
-use mathlib.Core.Bool.{Bool, true, false, not, ◌&&◌}
+use mathlib.Core.Bool.{Bool, true, false, not}
 use mathlib.Core.List.{List, [], ◌∷◌}
 use Prim.Native.Nat.{ℕ, ◌%◌, ◌<◌, ◌≤◌}
 use native.Mathlib.Omega.{arith}
@@ -10,7 +10,7 @@ use borrow.Author.Tests.{eq-eqb, ne_eqb, lt-ltb, le-ltb, leb-true, eqb-true, not
 use lib.Dec.{eqb, ltb, leb}
 use lib.ListN.{length, replicate}
 use Rattle.base.specs.Words.{pick}
-use Rattle.base.proofs.Tests.{by_cases, true_false, yes, no, pick_when, row, both_left, both_right, neither_left, neither_right}
+use Rattle.base.proofs.Tests.{by_cases, true_false, yes, no, pick_when, row, both_right, neither_left, neither_right}
 use Rattle.record.specs.declared.Act.{Act}
 use Rattle.record.specs.declared.Device.{Device}
 use Rattle.record.specs.declared.Reply.TheVariants.{Off}
@@ -31,7 +31,7 @@ use Rattle.form.proofs.ChipLaws.{recorded_sound}
 use Rattle.form.proofs.SavedLaws.{saved_right}
 use Rattle.form.proofs.StateLaws.{low_at}
 use Rattle.acts.specs.declared.Answer.{Answer}
-use Rattle.acts.specs.Act.{Outcome, outcome_of, performed}
+use Rattle.acts.specs.Act.{outcome_of, performed}
 use Rattle.arrays.specs.Arrays.{Arrays, arrays, arrays_of, part_of, arrays_refusal, state_refusal, answer_of, no_chip}
 use Rattle.calls.specs.Calls.{Called, called, world_in, fresh_in, new_refusal, newly, told, no_act, acts, Wrote, wrote, wrote_of, saves_state, loaded_of, loads_state}
 use Rattle.arrays.proofs.TestLaws.{state_short}
@@ -79,14 +79,14 @@ module _ (part k : ℕ) (a : Arrays) (e : k ≡ new_refusal part a) where
       ∙ no (called 0 [] (fresh_in part a)) (called (new_refusal part a) [] a) (ne_eqb (new_refusal part a) 0 (λ q. h (e ∙ q)))
 
   module _ (z : k ≡ 0) where
-    pub new-long : length a.state ≡ 142
-    new-long = eqb-true _ _ (is_there part (length a.eeprom) (length a.id) k (eqb (length a.state) 142) e z)
+    pub new_long : length a.state ≡ 142
+    new_long = eqb-true _ _ (is_there part (length a.eeprom) (length a.id) k (eqb (length a.state) 142) e z)
 
-    pub new-done :
+    pub new_done :
         (state ee id : List ℕ) (d : Device) → state ≡ state_of (part % 256) d → d ≡ fresh → ee ≡ replicate (length a.eeprom) 255
         → id ≡ replicate (length a.id) 255 → called 0 [] (arrays state ee id) ≡ newly part a
     unfolding newly
-    new-done state ee id d s f p q =
+    new_done state ee id d s f p q =
         let b = part_byte part (named part (length a.eeprom) (length a.id) k (eqb (length a.state) 142) e z) in
         (λ i. called 0 [] (arrays ((s ∙ (λ j. state_of (b j) (f j))) i) (p i) (q i)))
         ∙ yes (called 0 [] (fresh_in part a)) (called (new_refusal part a) [] a) (eq-eqb (new_refusal part a) 0 (sym e ∙ z))
@@ -130,9 +130,9 @@ module _ (a : Arrays) (k : ℕ) (e : k ≡ arrays_refusal (part_of a.state) (len
     abbrev judging : Called
     judging = pick (ltb act act_count) done (no_act a)
 
-    pub act-refused : k ≢ 0 → called k (no_chip k) a ≡ acts a act arg
+    pub act_refused : k ≢ 0 → called k (no_chip k) a ≡ acts a act arg
     unfolding acts
-    act-refused h =
+    act_refused h =
         ap (λ (n : ℕ). called n (no_chip n) a) refused_by_lem
         ∙ no judging (called (state_refusal a) (no_chip (state_refusal a)) a) (ne_eqb (state_refusal a) 0 (λ q. h (refused_by_lem ∙ q)))
 
@@ -141,16 +141,16 @@ module _ (a : Arrays) (k : ℕ) (e : k ≡ arrays_refusal (part_of a.state) (len
       unfolding acts
       judged = yes judging (called (state_refusal a) (no_chip (state_refusal a)) a) (eq-eqb (state_refusal a) 0 (sym refused_by_lem ∙ z))
 
-      pub act-none :
+      pub act_none :
           (answer : List ℕ) (d : Device) → 7 < act → answer ≡ answer_of 3 Off 0 d → d ≡ (world_in a).device → called 3 answer a ≡ acts a act arg
-      act-none answer d h p q = (λ i. called 3 ((p ∙ ap (answer_of 3 Off 0) q) i) a) ∙ no done (no_act a) (le-ltb act act_count (omega (arith, h))) ∙ judged
+      act_none answer d h p q = (λ i. called 3 ((p ∙ ap (answer_of 3 Off 0) q) i) a) ∙ no done (no_act a) (le-ltb act act_count (omega (arith, h))) ∙ judged
 
-      pub act-done :
+      pub act_done :
           (part : ℕ) (state ee id answer : List ℕ) (d : Device) (code : Act) (r : Answer) → part ≡ part_of a.state → act ≤ 7 → code ≡ act_of act
           → d ≡ (world_in a).device
           → outcome_of r ee id ≡ performed part code arg (world d a.eeprom a.id) → state ≡ state_of part r.device
           → answer ≡ answer_of r.number r.reply r.count r.device → called r.number answer (arrays state ee id) ≡ acts a act arg
-      act-done part state ee id answer d code r pe h c q o s p =
+      act_done part state ee id answer d code r pe h c q o s p =
           (λ i. called r.number (p i) (arrays (s i) ee id))
           ∙ ap (told part) (o ∙ (λ i. performed part (c i) arg (world (q i) a.eeprom a.id)))
           ∙ ap (λ (n : ℕ). told n (performed n (act_of act) arg (world_in a))) pe
@@ -167,22 +167,22 @@ module _ (a : Arrays) (k : ℕ) (e : k ≡ arrays_refusal (part_of a.state) (len
         ap (λ (n : ℕ). wrote n (0 ∷ []) room) refused_by_lem
         ∙ no saving (wrote (state_refusal a) (0 ∷ []) room) (ne_eqb (state_refusal a) 0 (λ q. h (refused_by_lem ∙ q)))
 
-    pub save-done :
+    pub save_done :
         k ≡ 0 → (s : Saving) (part : ℕ) (d : Device) → part ≡ part_of a.state → d ≡ (world_in a).device → s ≡ saves part (world d a.eeprom a.id) room
         → wrote_of s ≡ saves_state a room
     unfolding saves_state
-    save-done z s part d pe q f =
+    save_done z s part d pe q f =
         ap wrote_of (f ∙ (λ i. saves (pe i) (world (q i) a.eeprom a.id) room))
         ∙ yes saving (wrote (state_refusal a) (0 ∷ []) room) (eq-eqb (state_refusal a) 0 (sym refused_by_lem ∙ z))
 
 -- a load that is refused leaves part, record and memories
 refused_leaves : (text : List ℕ) (part : ℕ) (w : World) → (loads text part w).number ≢ 0 → (loads text part w).world ≡ w
 unfolding loads
-refused_leaves text part w h = by-loaded (load chip_form text) h
+refused_leaves text part w h = by_loaded (load chip_form text) h
   where
-    by-loaded : (l : Loaded (List ℕ)) → (load_answer l part w).number ≢ 0 → (load_answer l part w).world ≡ w
-    by-loaded (bad n) g = refl
-    by-loaded (loaded ns) g =
+    by_loaded : (l : Loaded (List ℕ)) → (load_answer l part w).number ≢ 0 → (load_answer l part w).world ≡ w
+    by_loaded (bad n) g = refl
+    by_loaded (loaded ns) g =
         pick_when (λ (x : Loading). x.number ≢ 0 → x.world ≡ w) (wrong_length (part_in ns) (length w.eeprom) (length w.id)) (λ t u. refl) (λ t u. absurd (u refl)) g
 
 -- A load.
@@ -195,31 +195,31 @@ module _ (text : List ℕ) (a : Arrays) where
   load_short h = no (loaded_of reads a) (called 6 (0 ∷ []) a) (ne_eqb (length a.state) 142 h)
 
   module _ (l : length a.state ≡ 142) (r : Loading) (e : r ≡ reads) where
-    long-enough : loaded_of reads a ≡ loads_state text a
+    long_enough : loaded_of reads a ≡ loads_state text a
     unfolding loads_state
-    long-enough = yes (loaded_of reads a) (called 6 (0 ∷ []) a) (eq-eqb (length a.state) 142 l)
+    long_enough = yes (loaded_of reads a) (called 6 (0 ∷ []) a) (eq-eqb (length a.state) 142 l)
 
     -- a load that is refused leaves the memories
     left_alone : reads.number ≢ 0 → reads.world ≡ world fresh a.eeprom a.id
     left_alone h = refused_leaves text 0 (world fresh a.eeprom a.id) h
 
-    pub load-refused : r.number ≢ 0 → called r.number (r.line ∷ []) (arrays a.state r.world.eeprom r.world.id) ≡ loads_state text a
-    load-refused h =
+    pub load_refused : r.number ≢ 0 → called r.number (r.line ∷ []) (arrays a.state r.world.eeprom r.world.id) ≡ loads_state text a
+    load_refused h =
         let g : reads.number ≢ 0 = λ q. h (ap (λ (x : Loading). x.number) e ∙ q) in
         let w = left_alone g in
         (λ i. called (e i).number ((e i).line ∷ []) (arrays a.state (e i).world.eeprom (e i).world.id))
         ∙ (λ i. called reads.number (reads.line ∷ []) (arrays a.state (w i).eeprom (w i).id))
         ∙ no (called 0 (reads.line ∷ []) (arrays_of reads.part reads.world)) (called reads.number (reads.line ∷ []) a) (ne_eqb reads.number 0 g)
-        ∙ long-enough
+        ∙ long_enough
 
-    pub load-done :
+    pub load_done :
         (state : List ℕ) → r.number ≡ 0 → state ≡ state_of (r.part % 256) r.world.device
         → called 0 (r.line ∷ []) (arrays state r.world.eeprom r.world.id) ≡ loads_state text a
-    load-done state h s =
+    load_done state h s =
         let g : reads.number ≡ 0 = ap (λ (x : Loading). x.number) (sym e) ∙ h in
         let b = part_byte reads.part (saved_right.saved_back text 0 (world fresh a.eeprom a.id) g).0.named in
         (λ i. called 0 (r.line ∷ []) (arrays (s i) r.world.eeprom r.world.id))
         ∙ (λ i. called 0 ((e i).line ∷ []) (arrays (state_of ((e i).part % 256) (e i).world.device) (e i).world.eeprom (e i).world.id))
         ∙ (λ i. called 0 (reads.line ∷ []) (arrays (state_of (b i) reads.world.device) reads.world.eeprom reads.world.id))
         ∙ yes (called 0 (reads.line ∷ []) (arrays_of reads.part reads.world)) (called reads.number (reads.line ∷ []) a) (eq-eqb reads.number 0 g)
-        ∙ long-enough
+        ∙ long_enough

@@ -1,7 +1,7 @@
 -- What is claimed of comparing, for every two chips in range, all texts that stand for them, and every room. Read this first; it is proved in proofs/ClaimLaws.
 -- It speaks of the texts' own lines: neither the table nor the code's walk is in it.
 -- Assumes nothing.
-use Rattle.std.specs.Prelude.{ℕ, zero, suc, ◌+◌, ◌<◌, ◌≤◌, ◌≡◌, ◌⊎◌, ◌↔◌, ◌≢◌, List, [], ◌∷◌, length, take, get_or}
+use Rattle.std.specs.Prelude.{ℕ, zero, suc, ◌<◌, ◌≤◌, ◌≡◌, ◌⊎◌, ◌↔◌, ◌≢◌, List, [], ◌∷◌, length, take, get_or}
 use Rattle.std.proofs.Math.Option.{some}
 use Rattle.record.specs.World.{World}
 use Rattle.form.specs.Lines.{read_line, lines_in, joined}

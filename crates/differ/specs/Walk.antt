@@ -4,7 +4,7 @@
 use Rattle.std.specs.Prelude.{ℕ, zero, suc, ◌+◌, ◌-◌, Bool, true, false, ◌&&◌, List, [], ◌∷◌, ◌++◌, leb, length, take}
 use Rattle.std.proofs.lemmas.List.Edits.{sets}
 use Rattle.base.specs.Words.{pick}
-use Rattle.form.specs.Table.{Row, rows, key_of, span, numbers_at}
+use Rattle.form.specs.Table.{Row, key_of, span, numbers_at}
 use Rattle.differ.specs.Differ.{Difference, line_differs, difference_text}
 
 -- the smaller of two

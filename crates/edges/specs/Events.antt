@@ -1,6 +1,6 @@
 -- Closed witnesses of the event inputs: acts on a record that is written out, through `performed`. Each shows a rule a second time, as the paper's numbers.
 -- Assumes nothing.
-use Rattle.std.specs.Prelude.{ℕ, ◌≡◌, refl, Bool, false, List, [], ◌∷◌, get_or, set}
+use Rattle.std.specs.Prelude.{ℕ, ◌≡◌, refl, false, List, [], ◌∷◌, get_or, set}
 use Rattle.base.specs.Wait.{waited_by}
 use Rattle.base.specs.Words.{every, flag, store_under}
 use Rattle.events.specs.declared.Events.{Events}
@@ -8,9 +8,7 @@ use Rattle.events.specs.Control.{pulls_irq}
 use Rattle.events.specs.Pins.{drum_set, door_set, zeroes_watchdog}
 use Rattle.events.specs.Tick.{events_tick}
 use Rattle.events.specs.Range.{window_out, debounce_out, events_out}
-use Rattle.record.specs.declared.Act.{Act}
 use Rattle.record.specs.declared.Act.TheVariants.{Byte, Wait, Cut, Set}
-use Rattle.record.specs.declared.Counters.{Counters}
 use Rattle.record.specs.declared.Device.{Device}
 use Rattle.record.specs.declared.Pin.TheVariants.{Evls, Evhs}
 use Rattle.record.specs.Fresh.{fresh_events}

@@ -2,14 +2,14 @@
 -- Assumes nothing.
 use Prim.Native.Nat.{ℕ, ◌<◌, ◌≤◌}
 use native.Mathlib.Omega.{arith}
-use mathlib.Core.Path.{◌≡◌, refl, ◌∙◌}
+use mathlib.Core.Path.{refl, ◌∙◌}
 use mathlib.Core.Bool.{Bool}
 use Rattle.events.specs.declared.Events.{Events}
 use Rattle.events.specs.declared.Inputs.{Inputs}
 use Rattle.events.specs.Rows.{EventsIn}
 use Rattle.events.specs.Pins.{no_counts, drum_set, door_set, control_written}
 use Rattle.events.specs.Tick.{events_tick}
-use Rattle.events.specs.Story.{Move, Drum, Door, Tick}
+use Rattle.events.specs.Story.{Drum, Door, Tick}
 use Rattle.events.proofs.ControlLaws.{Settings}
 use Rattle.events.proofs.RangeLaws.{InputsIn, drum_in_lem, door_in_lem, tick_in, write_in}
 use Rattle.events.proofs.MoveLaws.{leaves}

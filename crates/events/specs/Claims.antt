@@ -2,7 +2,7 @@
 -- move: a write brings its own bits, a flag that is set stays, an input that is off sets none, and one that is on with its flag clear sets it
 -- as `high` and `low` tell. They do not tell when an act is which moves: that is the chip's matter.
 -- Assumes nothing.
-use Rattle.std.specs.Prelude.{ℕ, ◌<◌, ◌≡◌, ◌⊎◌, ◌↔◌, Bool, true, false, not, ◌&&◌, List, ◌∷◌, ◌++◌}
+use Rattle.std.specs.Prelude.{ℕ, ◌<◌, ◌≡◌, ◌⊎◌, ◌↔◌, true, false, not, ◌&&◌, List, ◌∷◌, ◌++◌}
 use Rattle.std.specs.Bool.{beq}
 use Rattle.events.specs.declared.Events.{Events}
 use Rattle.events.specs.declared.Inputs.{Inputs}

@@ -1,19 +1,18 @@
 -- What is claimed of a caller's arrays: each part by the laws of the form and of the acts.
 -- Assumes nothing.
 use mathlib.Core.Path.{◌≡◌, refl, sym, ap, subst, ◌∙◌}
-use mathlib.Core.Logic.{◌≢◌, ◌↔◌}
+use mathlib.Core.Logic.{◌≢◌}
 use mathlib.Core.Bool.{Bool, true, false, not}
 use mathlib.Core.List.{List, [], ◌∷◌}
-use Prim.Native.Nat.{ℕ, ◌<◌, ◌≤◌}
+use Prim.Native.Nat.{ℕ, ◌<◌}
 use native.Mathlib.Omega.{arith}
-use borrow.Author.Tests.{eq-eqb, ne_eqb, lt-ltb, le-ltb, eqb-true, ltb-true, ltb-false}
+use borrow.Author.Tests.{eq-eqb, ne_eqb, lt-ltb, le-ltb, eqb-true}
 use lib.Dec.{eqb, ltb}
 use lib.ListN.{length, get_or, replicate}
 use Rattle.base.specs.Words.{pick}
-use Rattle.base.proofs.Tests.{by_cases, yes, no, pick_when, both_right, neither}
+use Rattle.base.proofs.Tests.{yes, no, pick_when, both_right, neither}
 use Rattle.record.specs.declared.Act.{Act}
 use Rattle.record.specs.declared.Act.TheVariants.{Select, Byte, End, Wait, Cut, Up, Set}
-use Rattle.record.specs.declared.Device.{Device}
 use Rattle.record.specs.declared.Pin.TheVariants.{Evls, Evhs}
 use Rattle.record.specs.declared.Reply.TheVariants.{Off}
 use Rattle.record.specs.Fresh.{fresh}
@@ -29,15 +28,15 @@ use Rattle.form.specs.State.{array_numbers, state_bytes, is_state, state_of}
 use Rattle.form.proofs.ChipLaws.{sound_record, recorded_sound}
 use Rattle.form.proofs.StateLaws.{array_again, state_good, device_told, carried_in}
 use Rattle.acts.specs.Act.{Outcome, refusal_in, accepted, performed}
-use Rattle.acts.proofs.ValidLaws.{Valid, performed_valid}
-use Rattle.run.specs.Claim.{Input, our_chip, world_after, steps_of, memory_of}
-use Rattle.run.specs.Begin.{ledger_of, AccountedFrom, DemandThreeFrom}
+use Rattle.acts.proofs.ValidLaws.{performed_valid}
+use Rattle.run.specs.Claim.{Input, our_chip, world_after, memory_of}
+use Rattle.run.specs.Begin.{DemandThreeFrom}
 use Rattle.run.proofs.BeginAgrees.{demand_three_from}
 use Rattle.ledger.specs.State.{Memory, eeprom, id}
 use Rattle.arrays.specs.Arrays.{Arrays, arrays, arrays_of, part_of, arrays_refusal, state_refusal, answer_of, no_chip}
 use Rattle.calls.specs.Calls.{Called, called, world_in, fresh_in, new_refusal, newly, told, no_act, acts}
-use Rattle.export.specs.Claim.{ByteArrays, Held, called_all, BytesAll, CallsRight}
-use Rattle.calls.proofs.CallLaws.{named, eeprom_fits, id_fits, new-done, state_there, state_long, part_there}
+use Rattle.export.specs.Claim.{ByteArrays, called_all, BytesAll, CallsRight}
+use Rattle.calls.proofs.CallLaws.{named, eeprom_fits, id_fits, state_there, state_long, part_there}
 
 -- the rows of arrays none of which holds
 passes :
@@ -161,17 +160,17 @@ module _ (a : Arrays) (b : Bytes a.state) (m n : ℕ) where
   unfolding performed
   told_keeps x z =
       pick_when (λ (o : Outcome). Keeps (told p o)) (eqb (refusal_in p x n (world_in a)) 0)
-      (λ t u. absurd (u (accepted-done x)))
+      (λ t u. absurd (u (accepted_done x)))
       (λ t u. again a b z)
     where
-      accepted-done : (y : Act) → (accepted p n (world_in a) y).number ≡ 0
-      accepted-done Select = refl
-      accepted-done Byte = refl
-      accepted-done End = refl
-      accepted-done Wait = refl
-      accepted-done Cut = refl
-      accepted-done Up = refl
-      accepted-done (Set p) = refl
+      accepted_done : (y : Act) → (accepted p n (world_in a) y).number ≡ 0
+      accepted_done Select = refl
+      accepted_done Byte = refl
+      accepted_done End = refl
+      accepted_done Wait = refl
+      accepted_done Cut = refl
+      accepted_done Up = refl
+      accepted_done (Set p) = refl
 
   pub kept : Keeps (acts a m n)
   unfolding acts
@@ -195,11 +194,11 @@ row_on part w s (x ∷ xs) b =
     let e = ap (λ (c : Called). c.after) (acted part w s x.act x.arg) in
     let next = (performed part x.act x.arg w).after in
     ap (λ (a : Arrays). called_all a xs) e
-    ∙ row_on part next (sound_after part w s x.act x.arg (first-bytes _ xs b.1)) xs (subst (λ (a : Arrays). BytesAll a xs) e b.1)
+    ∙ row_on part next (sound_after part w s x.act x.arg (first_bytes _ xs b.1)) xs (subst (λ (a : Arrays). BytesAll a xs) e b.1)
   where
-    first-bytes : (a : Arrays) (ys : List Input) → BytesAll a ys → Bytes a.state
-    first-bytes a [] c = c.state
-    first-bytes a (y ∷ ys) c = c.0.state
+    first_bytes : (a : Arrays) (ys : List Input) → BytesAll a ys → Bytes a.state
+    first_bytes a [] c = c.state
+    first_bytes a (y ∷ ys) c = c.0.state
 
 made : (part : ℕ) (a : Arrays) → is_part part ≡ true → length a.state ≡ 142 → length a.eeprom ≡ size_of part → length a.id ≡ id_size → newly part a ≡ called 0 [] (arrays_of part (fresh_world part))
 unfolding newly

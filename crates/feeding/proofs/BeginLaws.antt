@@ -97,11 +97,11 @@ module _
     (part : ℕ) → is_part part ≡ true → (s : World) → InRange part s.device → Shaped part s → (xs : List Input)
     → Owed part s (world_after our_chip part xs s) (steps_of our_chip part xs s))
   where
-    pub tape-owed :
+    pub tape_owed :
         (s : Setup) → Begun s → no_part s ≡ false → (bytes : List ℕ)
         → Owed s.part s.chip (left_with s bytes).chip (steps_told (lines_from [] bytes) (lines_from [] (answers_with s bytes)))
     unfolding TapeRuns
-    tape-owed s b f bytes =
+    tape_owed s b f bytes =
         let r = tape_runs s f bytes in
         let k = setup_passed s.part s.chip.device (size_of s.part) id_size (ready_suits s.part s.chip.device _ _ f b.goes refl refl) in
         subst (λ (x : Setup). Owed s.part s.chip x.chip (steps_told (lines_from [] bytes) (lines_from [] (answers_with s bytes)))) (sym r.1.left)

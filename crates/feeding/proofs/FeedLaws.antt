@@ -40,7 +40,7 @@ use Rattle.feeding.specs.Feeding.{Offer, wrote, Course, course_of, last_call, pr
 use Rattle.tape.proofs.TapeLaws.{fed_join, ahead_join, TapeFacts, tape_facts, facts_tape}
 use Rattle.feeding.proofs.WholeLaws.{lines_fed, to_end, fed_lines, answers_lines, setup_lines, taken_within_lem, taken_some}
 use Rattle.feeding.proofs.LedgerLaws.{bytes_accounted}
-use Rattle.feeding.proofs.BeginLaws.{cut_in_two, tape-owed}
+use Rattle.feeding.proofs.BeginLaws.{cut_in_two, tape_owed}
 
 -- a state that a tape comes to: its setup is sound and its chip valid, and no more is kept of a line than tells that it is too long
 pub record Fine (s : State) : Type 0 where
@@ -301,24 +301,24 @@ module _
     (part : ℕ) → is_part part ≡ true → (s : World) → InRange part s.device → Shaped part s → (xs : List Input)
     → Owed part s (world_after our_chip part xs s) (steps_of our_chip part xs s))
   where
-    pub feeding-owed :
+    pub feeding_owed :
         (s : Setup) (l : Loan) → HasFed s l [] → no_part s ≡ false → (bytes : List ℕ) (xs : List Offer) → (course_of l bytes xs).left ≡ [] → (o : Buffer)
         → answer_room ≤ room_in o
         → Owed s.part s.chip (setup_in (held_in (last_call (course_of l bytes xs) o).after)).chip
         (steps_told (lines_from [] bytes) (lines_from [] (printed (course_of l bytes xs) o)))
     unfolding AnyResumed fed
-    feeding-owed s l h f bytes xs z o m =
+    feeding_owed s l h f bytes xs z o m =
         let r = any_resumed s l h bytes xs in
         let c = course_of l bytes xs in
         subst (λ (x : List ℕ). Owed s.part s.chip (setup_in (held_in (last_call c o).after)).chip (steps_told (lines_from [] bytes) (lines_from [] x))) (sym (r.whole z o m))
         (subst (λ (x : State). Owed s.part s.chip x.setup.chip (steps_told (lines_from [] bytes) (lines_from [] (answers_with s bytes)))) (sym (r.leaves z o m).reached)
-        (tape-owed Owed owed s h.begun f bytes))
+        (tape_owed Owed owed s h.begun f bytes))
 
 -- demand 3 is owed so
 pub resumed_accounted : ResumedAccounted
 unfolding DemandThreeFrom ResumedAccounted
 resumed_accounted =
-    feeding-owed (λ part s w steps. AccountedFrom part s w (ledger_run part steps (ledger_of s.device))) demand_three_from
+    feeding_owed (λ part s w steps. AccountedFrom part s w (ledger_run part steps (ledger_of s.device))) demand_three_from
 
 -- a tape that is cut in two at a line
 pub cut_feeding_lem : CutFeeding

@@ -21,7 +21,7 @@ use Rattle.record.specs.declared.Lock.{Lock}
 use Rattle.record.specs.declared.Lock.TheVariants.{Closed, First, Open}
 use Rattle.record.specs.declared.Stage.{Stage}
 use Rattle.record.specs.Numbers.{protection_of, lock_number, lock_of, stage_kind, stage_of, target_of}
-use Rattle.record.specs.Part.{is_part, size_of, id_size, boots_of}
+use Rattle.record.specs.Part.{size_of, id_size, boots_of}
 use Rattle.record.specs.Registers.{st, seconds_at, event_at, kept, period_of, cycle_ticks, startup_ticks}
 use Rattle.record.specs.Stages.{selected, foreign_to_wip}
 use Rattle.record.specs.World.{World, world, Bytes}
@@ -157,25 +157,25 @@ module _ (part : ℕ) (d : Device) (rest : List ℕ) (s : SoundRecord part d) wh
 
   -- the event inputs, where they end the list
   module _ (k : ℕ) (end : drop k ns ≡ event_numbers d.events) where
-    door-at : get_or ns k 0 ≡ d.events.door
-    door-at = ap (λ (m : ℕ). get_or ns m 0) (sym (add-zero k)) ∙ at k end 0
+    door_at_lem : get_or ns k 0 ≡ d.events.door
+    door_at_lem = ap (λ (m : ℕ). get_or ns m 0) (sym (add-zero k)) ∙ at k end 0
 
     control_at_lem : register_in ns event_at ≡ get_or d.regs event_at 0
     control_at_lem = at_register 11 (ltb-true 11 32 refl)
 
-    events-told : events_of k ns ≡ d.events
-    events-told i = record { door = door-at i; drum = at k end 1 i; edges = at k end 2 i; since = at k end 3 i; debounce = at k end 4 i }
+    events_told : events_of k ns ≡ d.events
+    events_told i = record { door = door_at_lem i; drum = at k end 1 i; edges = at k end 2 i; since = at k end 3 i; debounce = at k end 4 i }
 
-    pub event-facts : EventFacts k ns
-    event-facts =
+    pub event_facts_lem : EventFacts k ns
+    event_facts_lem =
         let v = get_or d.regs event_at 0 in
         let r = s.range.clock.events in
         record {
-          door = low door-at refl (one_more r.door);
+          door = low door_at_lem refl (one_more r.door);
           drum = low (at k end 1) refl (one_more r.drum);
           edges = low (at k end 2) (ap edges_by control_at_lem) (edges_within v d.events r);
           since = low (at k end 3) (ap since_by (at k end 2)) (since_within v d.events r);
-          debounce = low (at k end 4) (λ i. debounce_by (control_at_lem i) (door-at i)) (debounce_within v d.events r);
+          debounce = low (at k end 4) (λ i. debounce_by (control_at_lem i) (door_at_lem i)) (debounce_within v d.events r);
         }
       where
         one_more : {n : ℕ} → n ≤ 1 → n < 2
@@ -198,7 +198,7 @@ module _ (part : ℕ) (d : Device) (rest : List ℕ) (s : SoundRecord part d) wh
         frame = record { stage = stage_told i };
         load = record { offsets = head_at 13 i; bytes = load_told i; next = tail_at 0 i };
         cycle = record { target = target_told i; left = tail_at 3 i };
-        events = events-told k end i;
+        events = events_told k end i;
       }
 
   -- its length
@@ -329,7 +329,7 @@ module _ (part : ℕ) (w : World) (s : Sound part w) where
               id = bytes_in part w.device memories sound_record (123 + size_of part) 16 w.id events from_id s.shaped.id s.shaped.id_bytes;
             };
         long = chip_long;
-        events = event-facts part w.device memories sound_record (123 + size_of part + 16) from_events;
+        events = event_facts_lem part w.device memories sound_record (123 + size_of part + 16) from_events;
       }
     where
       within : {n : ℕ} (m : ℕ) → n ≡ m + 5 → m ≤ n
@@ -417,12 +417,12 @@ module _ (ms : List ℕ) (f : RecordFacts ms) (from : ℕ) where
 
   stage_is : StageFrom room (get_or ms 107 0) (get_or ms 108 0) (get_or ms 109 0) (stage_in ms)
   stage_is =
-      stage_from room (size_some (part_in ms)) (size_most (part_in ms)) (get_or ms 107 0) (get_or ms 108 0) (get_or ms 109 0) (kind-low (power_in ms) f.kind) f.which
+      stage_from room (size_some (part_in ms)) (size_most (part_in ms)) (get_or ms 107 0) (get_or ms 108 0) (get_or ms 109 0) (kind_low (power_in ms) f.kind) f.which
       f.value
     where
-      kind-low : {k : ℕ} (p : Bool) → k < kind_by p → k < 8
-      kind-low true h = h
-      kind-low false h = omega (arith, h)
+      kind_low : {k : ℕ} (p : Bool) → k < kind_by p → k < 8
+      kind_low true h = h
+      kind_low false h = omega (arith, h)
 
   target_is : TargetFrom room (get_or ms 120 0) (get_or ms 121 0) (target_of (get_or ms 120 0) (get_or ms 121 0))
   target_is = target_from room (get_or ms 120 0) (get_or ms 121 0) (size_some (part_in ms)) f.target f.place
@@ -495,7 +495,7 @@ module _ (ms : List ℕ) (f : RecordFacts ms) (from : ℕ) where
       (one 100 refl refl
       (one 101 refl refl
       (one 102 refl (flag_of (get_or ms 102 0) f.power)
-      (one 103 refl (flag_of (get_or ms 103 0) (mark-low (power_in ms) f.mark))
+      (one 103 refl (flag_of (get_or ms 103 0) (mark_low (power_in ms) f.mark))
       (one 104 refl (flag_of (get_or ms 104 0) f.wel)
       (one 105 refl (protection_of_lem (get_or ms 105 0) f.protection)
       (one 106 refl (lock_of_lem (get_or ms 106 0) f.lock)
@@ -509,9 +509,9 @@ module _ (ms : List ℕ) (f : RecordFacts ms) (from : ℕ) where
       (one 121 refl target_is.value
       (one 122 refl refl q)))))))))))))))))))))
     where
-      mark-low : {k : ℕ} (p : Bool) → k < mark_by p → k < 2
-      mark-low true h = omega (arith, h)
-      mark-low false h = h
+      mark_low : {k : ℕ} (p : Bool) → k < mark_by p → k < 2
+      mark_low true h = omega (arith, h)
+      mark_low false h = h
 
 -- the last five numbers of a list
 pub events_last : (ms : List ℕ) (k : ℕ) → length ms ≡ k + 5 → event_numbers (events_of k ms) ≡ drop k ms
@@ -546,10 +546,10 @@ module _ (ms : List ℕ) (f : Facts ms) where
   first = f.chip.first
 
   to_id : 123 + space ≤ length ms
-  to_id = before-id space f.chip.reach
+  to_id = before_id space f.chip.reach
     where
-      before-id : {n : ℕ} (m : ℕ) → 123 + m + 16 ≤ n → 123 + m ≤ n
-      before-id m h = omega (arith, h)
+      before_id : {n : ℕ} (m : ℕ) → 123 + m + 16 ≤ n → 123 + m ≤ n
+      before_id m h = omega (arith, h)
 
   pub facts_sound : Sound (part_in ms) (world_of ms)
   unfolding world_of
@@ -594,7 +594,7 @@ module _ (part : ℕ) (d : Device) (s : SoundRecord part d) where
       (record {
         first = record_facts part d e s;
         long = state_long part d e s;
-        events = event-facts part d e s 123 (from_123 part d e s);
+        events = event_facts_lem part d e s 123 (from_123 part d e s);
       })
 
   pub device_again : device_of (state_numbers part d) ≡ d

@@ -1,7 +1,7 @@
 -- A list of numbers is good by the table exactly if the facts hold of it, place by place.
 -- Assumes nothing.
 use mathlib.Core.Path.{◌≡◌, refl, sym, ap, subst, ◌∙◌}
-use mathlib.Core.Bool.{Bool, true, not, ◌&&◌}
+use mathlib.Core.Bool.{Bool, true, ◌&&◌}
 use mathlib.Core.List.{List, [], ◌∷◌, ◌++◌}
 use Prim.Native.Nat.{ℕ, zero, suc, ◌+◌, ◌*◌, ◌/◌, ◌<◌, ◌≤◌}
 use native.Mathlib.Nat.{add-zero, le_of_suc-le-suc, not-suc-le-zero}
@@ -265,61 +265,61 @@ module _ (ns : List ℕ) where
     later : (j : ℕ) → 123 ≤ k + j
     later j = omega (arith, past)
 
-    control-told : (m : ℕ) → 123 ≤ m → register_in (take m ns) event_at ≡ register_in ns event_at
-    control-told m h = get_or-take m ns 12 0 (omega (arith, h))
+    control_told : (m : ℕ) → 123 ≤ m → register_in (take m ns) event_at ≡ register_in ns event_at
+    control_told m h = get_or-take m ns 12 0 (omega (arith, h))
 
-    edges-told : edges_by (register_in (take (k + 2) ns) event_at) ≡ edges_by (register_in ns event_at)
-    edges-told = ap edges_by (control-told (k + 2) (later 2))
+    edges_told : edges_by (register_in (take (k + 2) ns) event_at) ≡ edges_by (register_in ns event_at)
+    edges_told = ap edges_by (control_told (k + 2) (later 2))
 
-    since-told : since_by (get_or (take (k + 3) ns) (place (take (k + 3) ns) + 2) 0) ≡ since_by (get_or ns (k + 2) 0)
-    since-told =
+    since_told : since_by (get_or (take (k + 3) ns) (place (take (k + 3) ns) + 2) 0) ≡ since_by (get_or ns (k + 2) 0)
+    since_told =
         (λ i. since_by (get_or (take (k + 3) ns) (here (k + 3) (later 3) i + 2) 0)) ∙ ap since_by (get_or-take (k + 3) ns (k + 2) 0 (omega arith))
 
-    debounce-told :
+    debounce_told :
         debounce_by (register_in (take (k + 4) ns) event_at) (get_or (take (k + 4) ns) (place (take (k + 4) ns)) 0)
         ≡ debounce_by (register_in ns event_at) (get_or ns k 0)
-    debounce-told =
-        (λ i. debounce_by (control-told (k + 4) (later 4) i) (get_or (take (k + 4) ns) (here (k + 4) (later 4) i) 0))
+    debounce_told =
+        (λ i. debounce_by (control_told (k + 4) (later 4) i) (get_or (take (k + 4) ns) (here (k + 4) (later 4) i) 0))
         ∙ ap (debounce_by (register_in ns event_at)) (get_or-take (k + 4) ns k 0 (omega arith))
 
-    on-1 : k + 1 + 1 ≡ k + 2
-    on-1 = omega arith
+    on_1 : k + 1 + 1 ≡ k + 2
+    on_1 = omega arith
 
-    on-2 : k + 2 + 1 ≡ k + 3
-    on-2 = omega arith
+    on_2 : k + 2 + 1 ≡ k + 3
+    on_2 = omega arith
 
-    on-3 : k + 3 + 1 ≡ k + 4
-    on-3 = omega arith
+    on_3 : k + 3 + 1 ≡ k + 4
+    on_3 = omega arith
 
-    on-4 : k + 4 + 1 ≡ k + 5
-    on-4 = omega arith
+    on_4 : k + 4 + 1 ≡ k + 5
+    on_4 = omega arith
 
-    events-before : EventFacts k ns → length ns ≡ k + 5 → Good (event_rows place) k ns
+    events_before : EventFacts k ns → length ns ≡ k + 5 → Good (event_rows place) k ns
     unfolding evls_row evhs_row edges_row since_row debounce_row
-    events-before f l =
+    events_before f l =
         one_before evls_row _ k (k + 1) refl refl (fits 1 (ltb-true 1 6 refl) l) (lt-ltb _ _ f.door)
-        (one_before evhs_row _ (k + 1) (k + 2) refl on-1 (fits 2 (ltb-true 2 6 refl) l) (lt-ltb _ _ f.drum)
-        (one_before edges_row _ (k + 2) (k + 3) refl on-2 (fits 3 (ltb-true 3 6 refl) l) (within (sym edges-told) f.edges)
-        (one_before (since_row place) _ (k + 3) (k + 4) refl on-3 (fits 4 (ltb-true 4 6 refl) l) (within (sym since-told) f.since)
-        (one_before (debounce_row place) _ (k + 4) (k + 5) refl on-4 (fits 5 (ltb-true 5 6 refl) l) (within (sym debounce-told) f.debounce) (ended l)))))
+        (one_before evhs_row _ (k + 1) (k + 2) refl on_1 (fits 2 (ltb-true 2 6 refl) l) (lt-ltb _ _ f.drum)
+        (one_before edges_row _ (k + 2) (k + 3) refl on_2 (fits 3 (ltb-true 3 6 refl) l) (within (sym edges_told) f.edges)
+        (one_before (since_row place) _ (k + 3) (k + 4) refl on_3 (fits 4 (ltb-true 4 6 refl) l) (within (sym since_told) f.since)
+        (one_before (debounce_row place) _ (k + 4) (k + 5) refl on_4 (fits 5 (ltb-true 5 6 refl) l) (within (sym debounce_told) f.debounce) (ended l)))))
       where
         fits : (j : ℕ) {n : ℕ} → j < 6 → n ≡ k + 5 → k + j ≤ n
         fits j h e = omega (arith, h, e)
 
-    events-off : Good (event_rows place) k ns → EventFacts k ns × (length ns ≡ k + 5)
+    events_off : Good (event_rows place) k ns → EventFacts k ns × (length ns ≡ k + 5)
     unfolding evls_row evhs_row edges_row since_row debounce_row
-    events-off g =
+    events_off g =
         let g-evls = one_off evls_row _ k (k + 1) refl refl g in
-        let g-evhs = one_off evhs_row _ (k + 1) (k + 2) refl on-1 g-evls.2 in
-        let g-edges = one_off edges_row _ (k + 2) (k + 3) refl on-2 g-evhs.2 in
-        let g-since = one_off (since_row place) _ (k + 3) (k + 4) refl on-3 g-edges.2 in
-        let g-debounce = one_off (debounce_row place) _ (k + 4) (k + 5) refl on-4 g-since.2 in (
+        let g-evhs = one_off evhs_row _ (k + 1) (k + 2) refl on_1 g-evls.2 in
+        let g-edges = one_off edges_row _ (k + 2) (k + 3) refl on_2 g-evhs.2 in
+        let g-since = one_off (since_row place) _ (k + 3) (k + 4) refl on_3 g-edges.2 in
+        let g-debounce = one_off (debounce_row place) _ (k + 4) (k + 5) refl on_4 g-since.2 in (
           record {
             door = ltb-true _ _ g-evls.0;
             drum = ltb-true _ _ g-evhs.0;
-            edges = below edges-told g-edges.0;
-            since = below since-told g-since.0;
-            debounce = below debounce-told g-debounce.0;
+            edges = below edges_told g-edges.0;
+            since = below since_told g-since.0;
+            debounce = below debounce_told g-debounce.0;
           },
           is_end g-debounce.2,
         )
@@ -335,13 +335,13 @@ module _ (ns : List ℕ) where
   unfolding rows
   facts_good f =
       memories_before (event_rows chip_events) f.chip
-      (events-before chip_events (chip_events ns) (past_memories (size_of (part_in ns))) behind_memories f.events f.long)
+      (events_before chip_events (chip_events ns) (past_memories (size_of (part_in ns))) behind_memories f.events f.long)
 
   pub good_facts : IsChip ns → Facts ns
   unfolding rows
   good_facts g =
       let g-chip = memories_off (event_rows chip_events) g in
-      let g-events = events-off chip_events (chip_events ns) (past_memories (size_of (part_in ns))) behind_memories g-chip.1 in
+      let g-events = events_off chip_events (chip_events ns) (past_memories (size_of (part_in ns))) behind_memories g-chip.1 in
       record { chip = g-chip.0; long = g-events.1; events = g-events.0 }
 
   -- the place after part, record and memories
@@ -354,11 +354,11 @@ module _ (ns : List ℕ) where
   unfolding is_record
   facts_recorded f =
       good_test_lem state_rows 0 ns
-      (record_before (event_rows state_events) f.first (events-before state_events 123 (leb-true 123 123 refl) (λ m h. refl) f.events f.long))
+      (record_before (event_rows state_events) f.first (events_before state_events 123 (leb-true 123 123 refl) (λ m h. refl) f.events f.long))
 
   pub recorded_facts : is_record ns ≡ true → StateFacts ns
   unfolding is_record
   recorded_facts t =
       let p = record_off (event_rows state_events) (test_good state_rows 0 ns t) in
-      let q = events-off state_events 123 (leb-true 123 123 refl) (λ m h. refl) p.1 in
+      let q = events_off state_events 123 (leb-true 123 123 refl) (λ m h. refl) p.1 in
       record { first = p.0; long = q.1; events = q.0 }

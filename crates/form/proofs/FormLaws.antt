@@ -1,7 +1,7 @@
 -- Laws of forms: what a file gives is what the ticket says, for every form that can be told line by line.
 -- Assumes nothing.
 use mathlib.Core.Path.{◌≡◌, refl, sym, ap, subst, ◌∙◌}
-use mathlib.Core.Logic.{◌⊎◌, inl, inr, ⊎_elim}
+use mathlib.Core.Logic.{inl, inr, ⊎_elim}
 use mathlib.Core.Bool.{Bool, true, false}
 use mathlib.Core.List.{List, [], ◌∷◌, ◌++◌, append_assoc, cons-ne-nil}
 use mathlib.Core.Option.{Option, none, some, some-injective, none-ne-some}
@@ -124,8 +124,8 @@ module _ {A : Type 0} where
 
   module _ (key : List ℕ) (test : List ℕ → Bool) (next : List ℕ → Form A) (l : Live (line key test next)) (p : List ℕ) (ps : List (List ℕ)) where
     -- a first line that nothing saved has
-    bad-first : ((x : List ℕ) → test x ≡ true → line_text key x ≡ p → ⊥) → FirstBad (line key test next) (p ∷ ps) 0
-    bad-first h =
+    bad_first : ((x : List ℕ) → test x ≡ true → line_text key x ≡ p → ⊥) → FirstBad (line key test next) (p ∷ ps) 0
+    bad_first h =
         record {
           before = begins_none (line key test next) l;
           after =
@@ -144,26 +144,26 @@ module _ {A : Type 0} where
 
     -- a good first line
     module _ (x : List ℕ) (e : read_line key p ≡ some x) (t : test x ≡ true) where
-      saves-on : (qs : List (List ℕ)) → Saves (next x) qs → Saves (line key test next) (p ∷ qs)
-      saves-on qs s =
+      saves_on : (qs : List (List ℕ)) → Saves (next x) qs → Saves (line key test next) (p ∷ qs)
+      saves_on qs s =
           subst (λ (r : List ℕ). Saves (line key test next) (r ∷ qs)) (sym (text_read_lem key p x e)) (saves_line key test next x qs t s)
 
-      saves-back : (qs : List (List ℕ)) → Saves (line key test next) (p ∷ qs) → Saves (next x) qs
-      saves-back qs s =
+      saves_back : (qs : List (List ℕ)) → Saves (line key test next) (p ∷ qs) → Saves (next x) qs
+      saves_back qs s =
           let a = saves_after key test next p qs s in
           subst (λ (y : List ℕ). Saves (next y) qs) (same_numbers x e a.x a.passes a.first) a.rest
 
-      good-first : (r : Loaded A) → Told (next x) ps r → Told (line key test next) (p ∷ ps) (later r)
+      good_first : (r : Loaded A) → Told (next x) ps r → Told (line key test next) (p ∷ ps) (later r)
       unfolding taken texts
-      good-first (loaded a) d = (x ∷ d.0, rw t d.1, λ i. sym (text_read_lem key p x e) i ∷ d.2 i)
-      good-first (bad zero) d = absurd d
-      good-first (bad (suc k)) d =
+      good_first (loaded a) d = (x ∷ d.0, rw t d.1, λ i. sym (text_read_lem key p x e) i ∷ d.2 i)
+      good_first (bad zero) d = absurd d
+      good_first (bad (suc k)) d =
           record {
-            before = record { rest = d.before.rest; whole = saves-on (take k ps ++ d.before.rest) d.before.whole };
+            before = record { rest = d.before.rest; whole = saves_on (take k ps ++ d.before.rest) d.before.whole };
             after =
                 ⊎_elim
-                (λ w. inl (suc-le-suc w.0, λ b. w.1 (record { rest = b.rest; whole = saves-back (take (suc k) ps ++ b.rest) b.whole })))
-                (λ w. inr (ap suc w.0, λ s. w.1 (saves-back ps s)))
+                (λ w. inl (suc-le-suc w.0, λ b. w.1 (record { rest = b.rest; whole = saves_back (take (suc k) ps ++ b.rest) b.whole })))
+                (λ w. inr (ap suc w.0, λ s. w.1 (saves_back ps s)))
                 d.after;
           }
 
@@ -213,14 +213,14 @@ module _ {A : Type 0} where
           (o : Option (List ℕ)) → read_line key p ≡ o → ((x : List ℕ) → test x ≡ true → Told (next x) ps (judged (next x) ps))
           → Told (line key test next) (p ∷ ps) (on_line o test (λ (x : List ℕ). judged (next x) ps))
       go none e rest =
-          bad-first key test next l p ps
+          bad_first key test next l p ps
           (λ x t q. none-ne-some x (sym e ∙ ap (read_line key) (sym q) ∙ read_good key test l.some_number x t))
       go (some x) e rest =
           by_cases (test x)
-          (λ t. rw t (good-first key test next l p ps x e t (judged (next x) ps) (rest x t)))
+          (λ t. rw t (good_first key test next l p ps x e t (judged (next x) ps) (rest x t)))
           (λ f.
           rw f
-          (bad-first key test next l p ps
+          (bad_first key test next l p ps
           (λ y t q. true_false (subst (λ (z : List ℕ). test z ≡ true) (same_numbers key test next l p ps x e y t q) t) f)))
 
   -- fewer lines begin it too
@@ -306,12 +306,12 @@ module _ {A : Type 0} where
         );
         refused = λ text k. (
           λ e. subst (Told f (lines_in text)) e (told f l (lines_in text)),
-          λ b. first-bad (lines_in text) k b (judged f (lines_in text)) (told f l (lines_in text)),
+          λ b. first_bad_lem (lines_in text) k b (judged f (lines_in text)) (told f l (lines_in text)),
         );
         counted = λ text e. subst (Told f (lines_in text)) e (told f l (lines_in text));
       }
     where
-      first-bad : (ps : List (List ℕ)) (k : ℕ) → FirstBad f ps k → (r : Loaded A) → Told f ps r → r ≡ bad (suc k)
-      first-bad ps k b (loaded a) d = absurd (saved_not_bad f ps k (record { numbers = d.0; value = a; good = d.1; lines = d.2 }) b)
-      first-bad ps k b (bad zero) d = absurd d
-      first-bad ps k b (bad (suc j)) d = ap (λ (n : ℕ). bad (suc n)) (one_first f ps j k d b)
+      first_bad_lem : (ps : List (List ℕ)) (k : ℕ) → FirstBad f ps k → (r : Loaded A) → Told f ps r → r ≡ bad (suc k)
+      first_bad_lem ps k b (loaded a) d = absurd (saved_not_bad f ps k (record { numbers = d.0; value = a; good = d.1; lines = d.2 }) b)
+      first_bad_lem ps k b (bad zero) d = absurd d
+      first_bad_lem ps k b (bad (suc j)) d = ap (λ (n : ℕ). bad (suc n)) (one_first f ps j k d b)

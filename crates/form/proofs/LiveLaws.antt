@@ -1,7 +1,7 @@
 -- The chip's form can always be carried on: at each place of each row some number is good, whatever came before. It is 1 for the part, and 0 for all else.
 -- Assumes nothing.
 use mathlib.Core.Path.{◌≡◌, refl, ap}
-use mathlib.Core.Bool.{true, false, not, ◌&&◌, ◌||◌, or-true}
+use mathlib.Core.Bool.{true, not, ◌&&◌, ◌||◌, or-true}
 use mathlib.Core.List.{List, [], ◌∷◌, ◌++◌}
 use Prim.Native.String.{String}
 use Prim.Native.Nat.{ℕ, zero, suc, ◌+◌}
@@ -10,7 +10,7 @@ use borrow.Author.Tests.{lt-ltb, ltb-true, ltb-false, eq-eqb}
 use lib.Dec.{ltb, eqb}
 use lib.Bits.{bit_and, and_zero_l}
 use lib.ListN.{get_or, get_or-eq_default}
-use Rattle.base.specs.Words.{pick, bit, every}
+use Rattle.base.specs.Words.{bit, every}
 use Rattle.base.proofs.Tests.{by_cases, pick_case, both_true}
 use Rattle.base.proofs.Every.{every_at}
 use Rattle.events.specs.Control.{even1, even0, number_of, debounce_of}

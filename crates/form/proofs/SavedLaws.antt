@@ -394,8 +394,8 @@ still_lines_lem ns g z =
     (line_text (bytes_of "evls") (at p 0 (sym (add-zero p)) i) ++ [])
     ++ ((line_text (bytes_of "evhs") (at (p + 1) 1 refl i) ++ [])
     ++ ((line_text (bytes_of "edges") (at (p + 1 + 1) 2 (on p) i) ++ [])
-    ++ ((line_text (bytes_of "since") (at (p + 1 + 1 + 1) 3 (on-2 p) i) ++ [])
-    ++ ((line_text (bytes_of "debounce") (at (p + 1 + 1 + 1 + 1) 4 (on-3 p) i) ++ []) ++ []))))
+    ++ ((line_text (bytes_of "since") (at (p + 1 + 1 + 1) 3 (on_2 p) i) ++ [])
+    ++ ((line_text (bytes_of "debounce") (at (p + 1 + 1 + 1 + 1) 4 (on_3 p) i) ++ []) ++ []))))
   where
     p : ℕ
     p = place ns
@@ -403,11 +403,11 @@ still_lines_lem ns g z =
     on : (n : ℕ) → n + 1 + 1 ≡ n + 2
     on n = omega arith
 
-    on-2 : (n : ℕ) → n + 1 + 1 + 1 ≡ n + 3
-    on-2 n = omega arith
+    on_2 : (n : ℕ) → n + 1 + 1 + 1 ≡ n + 3
+    on_2 n = omega arith
 
-    on-3 : (n : ℕ) → n + 1 + 1 + 1 + 1 ≡ n + 4
-    on-3 n = omega arith
+    on_3 : (n : ℕ) → n + 1 + 1 + 1 + 1 ≡ n + 4
+    on_3 n = omega arith
 
     last : drop (place ns) ns ≡ zeros
     last =
@@ -498,7 +498,7 @@ once : (part : ℕ) (w : World) (part' : ℕ) (w' : World) → Sound part w → 
 once part w part' w' s s' e =
     let a = text_loads (numbers_of part w) (sound_numbers part w s) in
     let b = text_loads (numbers_of part' w') (sound_numbers part' w' s') in
-    let m : numbers_of part w ≡ numbers_of part' w' = same-loaded (sym a ∙ ap (load chip_form) e ∙ b) in (
+    let m : numbers_of part w ≡ numbers_of part' w' = same_loaded (sym a ∙ ap (load chip_form) e ∙ b) in (
       sym (part_back part w s) ∙ ap part_in m ∙ part_back part' w' s',
       sym (world_back part w s) ∙ ap world_of m ∙ world_back part' w' s',
     )
@@ -507,8 +507,8 @@ once part w part' w' s s' e =
     numbers (loaded ns) = ns
     numbers (bad n) = []
 
-    same-loaded : {x y : List ℕ} → loaded x ≡ loaded y → x ≡ y
-    same-loaded h = ap numbers h
+    same_loaded : {x y : List ℕ} → loaded x ≡ loaded y → x ≡ y
+    same_loaded h = ap numbers h
 
 pub saved_right : SavedRight
 unfolding loads

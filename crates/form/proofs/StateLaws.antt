@@ -3,7 +3,7 @@
 use mathlib.Core.Path.{◌≡◌, refl, sym, ap, subst, ◌∙◌}
 use mathlib.Core.Bool.{true}
 use mathlib.Core.List.{List, [], ◌∷◌, ◌++◌, append_assoc}
-use Prim.Native.Nat.{ℕ, zero, suc, ◌+◌, ◌*◌, ◌/◌, ◌%◌, ◌-◌, ◌<◌, ◌≤◌}
+use Prim.Native.Nat.{ℕ, suc, ◌+◌, ◌/◌, ◌%◌, ◌-◌, ◌<◌, ◌≤◌}
 use native.Mathlib.Omega.{arith}
 use borrow.Author.Tests.{leb-true, ltb-true, lt-ltb, eq-eqb}
 use lib.Dec.{leb, ltb, eqb}
@@ -54,8 +54,8 @@ pub same_piece :
     (a b : List ℕ) (k m n : ℕ) → k + n ≤ length a → m + n ≤ length b → ((j : ℕ) → j < n → get_or a (k + j) 0 ≡ get_or b (m + j) 0)
     → take n (drop k a) ≡ take n (drop m b)
 same_piece a b k m n h g e =
-    let p = piece-long a k h in
-    let q = piece-long b m g in
+    let p = piece_long a k h in
+    let q = piece_long b m g in
     ext_get_or 0 (take n (drop k a)) (take n (drop m b)) (p ∙ sym q)
     (λ j l.
     let i : j < n = subst (λ (c : ℕ). j < c) p l in
@@ -64,8 +64,8 @@ same_piece a b k m n h g e =
     left_over : {x y : ℕ} (i : ℕ) → x ≡ y - i → i + n ≤ y → n ≤ x
     left_over i u v = omega (arith, u, v)
 
-    piece-long : (l : List ℕ) (i : ℕ) → i + n ≤ length l → length (take n (drop i l)) ≡ n
-    piece-long l i v = length-take-le n (drop i l) (left_over i (length-drop i l) v)
+    piece_long : (l : List ℕ) (i : ℕ) → i + n ≤ length l → length (take n (drop i l)) ≡ n
+    piece_long l i v = length-take-le n (drop i l) (left_over i (length-drop i l) v)
 
 -- a count of its bytes, and the bytes of a count
 pub count_back : (n x y z : ℕ) → n ≡ count_of x y z → x < 256 → y < 256 → z < 256 → (n % 256 ≡ x) × (n / 256 % 256 ≡ y) × (n / 65536 % 256 ≡ z)
@@ -155,12 +155,12 @@ module _ (bs : List ℕ) (l : length bs ≡ 142) where
     abbrev d : Device
     d = device_of ns
 
-    is-record : is_record ns ≡ true
+    is_record_lem : is_record ns ≡ true
     unfolding is_state
-    is-record = both_right (eqb (length bs) state_bytes) (is_record ns) t
+    is_record_lem = both_right (eqb (length bs) state_bytes) (is_record ns) t
 
     sound : SoundRecord (part_in ns) d
-    sound = recorded_sound ns is-record
+    sound = recorded_sound ns is_record_lem
 
     -- one byte before the rest of the array, three of a count, and a piece
     one : (k : ℕ) {v : ℕ} {x : List ℕ} → leb (suc k) 142 ≡ true → v ≡ get_or bs k 0 → x ≡ drop (suc k) bs → ◌≡◌ {A = List ℕ} (v ∷ x) (drop k bs)
@@ -176,25 +176,25 @@ module _ (bs : List ℕ) (l : length bs ≡ 142) where
         let z = count_back n (get_or bs k 0) (get_or bs (suc k) 0) (get_or bs (suc (suc k)) 0) e (b k) (b (suc k)) (b (suc (suc k))) in
         one k h0 z.0 (one (suc k) h1 z.1 (one (suc (suc k)) h2 z.2 q))
 
-    rest-told : rest_of d ≡ take 21 (drop 112 bs)
-    rest-told =
+    rest_told : rest_of d ≡ take 21 (drop 112 bs)
+    rest_told =
         sym (take_at (rest_of d) (event_numbers d.events) 21 (rest_long d sound.sized.bytes))
-        ∙ ap (take 21) (sym (rest_split d (event_numbers d.events)) ∙ sym (rest_of_lem (part_in ns) d sound) ∙ ap (drop 102) (numbers_again ns is-record) ∙ from_102)
+        ∙ ap (take 21) (sym (rest_split d (event_numbers d.events)) ∙ sym (rest_of_lem (part_in ns) d sound) ∙ ap (drop 102) (numbers_again ns is_record_lem) ∙ from_102)
         ∙ take_at (take 21 (drop 112 bs)) (last_numbers bs) 21 middle_long
 
     -- nothing behind the last byte
     none_left : [] ≡ drop 142 bs
     none_left = sym (drop-length bs) ∙ ap (λ (n : ℕ). drop n bs) l
 
-    events-told : event_bytes d.events ≡ drop 133 bs
-    events-told =
+    events_told : event_bytes d.events ≡ drop 133 bs
+    events_told =
         one 133 refl (event_at_lem 0)
         (one 134 refl (event_at_lem 1)
         (one 135 refl (event_at_lem 2)
         (count 136 refl refl refl (event_at_lem 3) (count 139 refl refl refl (event_at_lem 4) none_left))))
 
-    end-told : rest_before d (event_bytes d.events) ≡ drop 112 bs
-    end-told = rest_split d (event_bytes d.events) ∙ piece 112 21 rest-told events-told
+    end_told : rest_before d (event_bytes d.events) ≡ drop 112 bs
+    end_told = rest_split d (event_bytes d.events) ∙ piece 112 21 rest_told events_told
 
     pub array_again : state_of (part_in ns) d ≡ bs
     unfolding state_of
@@ -204,7 +204,7 @@ module _ (bs : List ℕ) (l : length bs ≡ 142) where
         (piece 33 64 sram_in
         (count 97 refl refl refl (count_at_lem 0)
         (count 100 refl refl refl (count_at_lem 1)
-        (count 103 refl refl refl (count_at_lem 2) (count 106 refl refl refl (count_at_lem 3) (count 109 refl refl refl (count_at_lem 4) end-told)))))))
+        (count 103 refl refl refl (count_at_lem 2) (count 106 refl refl refl (count_at_lem 3) (count 109 refl refl refl (count_at_lem 4) end_told)))))))
 
 -- The array of a record, piece by piece.
 module _ (part : ℕ) (d : Device) (z : Sized d) where
@@ -234,10 +234,10 @@ module _ (part : ℕ) (d : Device) (z : Sized d) where
       sum p q = omega (arith, p, q)
 
   pub array_long : length bs ≡ 142
-  array_long = ap length in_two ∙ sum (length-append front (counts_bytes d.counters ++ rest)) front_long counts-long end_long
+  array_long = ap length in_two ∙ sum (length-append front (counts_bytes d.counters ++ rest)) front_long counts_long end_long
     where
-      counts-long : length (counts_bytes d.counters ++ rest) ≡ 15 + length rest
-      counts-long = length-append (counts_bytes d.counters) rest
+      counts_long : length (counts_bytes d.counters ++ rest) ≡ 15 + length rest
+      counts_long = length-append (counts_bytes d.counters) rest
 
       sum : {n a m b : ℕ} → n ≡ a + m → a ≡ 97 → m ≡ 15 + b → b ≡ 30 → n ≡ 142
       sum p q u r = omega (arith, p, q, u, r)

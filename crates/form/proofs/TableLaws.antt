@@ -5,17 +5,17 @@ use mathlib.Core.Path.{◌≡◌, refl, sym, ap, subst, ◌∙◌}
 use mathlib.Core.Logic.{◌⊎◌, inl, inr, ⊎_elim}
 use mathlib.Core.Bool.{true}
 use mathlib.Core.List.{List, [], ◌∷◌, ◌++◌, append-nil, append_assoc, cons-ne-nil}
-use mathlib.Core.Option.{Option, none, some, some-injective, none-ne-some}
+use mathlib.Core.Option.{some, some-injective, none-ne-some}
 use Prim.Native.Nat.{ℕ, zero, suc, ◌+◌, ◌*◌, ◌<◌, ◌≤◌, suc-le-suc}
 use native.Mathlib.Nat.{add-zero, zero-mul, suc-mul, le_of_suc-le-suc}
 use native.Mathlib.Omega.{arith}
 use borrow.Author.Tests.{eq-eqb, eqb-true, ne_eqb}
 use lib.Dec.{eqb}
-use lib.ListN.{length, take, drop, get_or, length-append, length-take, length-drop, take-append-drop, replicate, length-replicate, get_or-append}
+use lib.ListN.{length, take, drop, get_or, length-append, length-drop, take-append-drop, replicate, length-replicate, get_or-append}
 use lib.Seq.{take-take, take_all, take-add, take_at, drop_at, get_or-take, get_or-drop, append_snoc, length-take-le, take-append-le, get_or-append-add}
-use Rattle.base.proofs.Tests.{no, both_left, both_right, both_true}
+use Rattle.base.proofs.Tests.{both_left, both_right, both_true}
 use Rattle.form.specs.Lines.{line_text, joined, unbroken}
-use Rattle.form.specs.Form.{Form, done, line, may_end, taken, texts, Live}
+use Rattle.form.specs.Form.{Form, done, may_end, taken, texts, Live}
 use Rattle.form.specs.Table.{Row, in_groups, key_of, span, Good, numbers_at, row_text, text_from, good_after, line_good, row_form, rows_form, zeros_after, groups_form}
 use Rattle.form.proofs.FormLaws.{taken_first}
 
@@ -80,17 +80,17 @@ module _ (r : Row) where
       (λ t. r.good (take (p t) ns) (q t) (get_or ns (p t) 0)) ∙ h (w + j) (omega (arith, m))
 
   module _ (next : List ℕ → Form (List ℕ)) where
-    pub row-taken :
+    pub row_taken :
         (n i k : ℕ) (ns : List ℕ) (ls : List (List ℕ)) (a : List ℕ) → k + n * w ≤ length ns → Run n i k ns
         → taken (next (take (k + n * w) ns)) ls ≡ some a → taken (row_form r n i (take k ns) next) (cut_row n k ns ++ ls) ≡ some a
     unfolding row_form taken cut_row
-    row-taken zero i k ns ls a l h t =
+    row_taken zero i k ns ls a l h t =
         let e : k ≡ k + 0 * w = omega (arith, zero-mul w) in
         ap (λ (m : ℕ). taken (next (take m ns)) ls) e ∙ t
-    row-taken (suc n) i k ns ls a l h t =
+    row_taken (suc n) i k ns ls a l h t =
         let m = suc-mul n w in
         let p : k + suc n * w ≡ k + w + n * w = omega (arith, m) in
-        let z = row-taken n (suc i) (k + w) ns ls a (omega (arith, m)) (run_after n i k ns h) (ap (λ (q : ℕ). taken (next (take q ns)) ls) (sym p) ∙ t) in
+        let z = row_taken n (suc i) (k + w) ns ls a (omega (arith, m)) (run_after n i k ns h) (ap (λ (q : ℕ). taken (next (take q ns)) ls) (sym p) ∙ t) in
         rw (line_good_lem n i k ns l h)
         (ap (λ (b : List ℕ). taken (row_form r n (suc i) b next) (cut_row n (k + w) ns ++ ls)) (sym (take-add k w ns)) ∙ z)
 
@@ -115,11 +115,11 @@ module _ (r : Row) where
         ((λ q. good_after r (append_snoc b n x q) (p q) y) ∙ h))
 
     -- one line more
-    cut-more :
+    cut_more :
         (n : ℕ) (b y v t : List ℕ) (ls after : List (List ℕ)) → length y ≡ w → ls ≡ cut_row n (length (b ++ y)) ((b ++ y) ++ (v ++ t)) ++ after
         → y ∷ ls ≡ cut_row (suc n) (length b) (b ++ ((y ++ v) ++ t)) ++ after
     unfolding cut_row
-    cut-more n b y v t ls after l c =
+    cut_more n b y v t ls after l c =
         let whole : b ++ ((y ++ v) ++ t) ≡ b ++ (y ++ (v ++ t)) = ap (λ (s : List ℕ). b ++ s) (append_assoc y v t) in
         let first : y ≡ numbers_at r (length b) (b ++ ((y ++ v) ++ t)) =
         sym
@@ -145,14 +145,14 @@ module _ (r : Row) where
           good =
               after_join b (i * w) y v (both_right (eqb (length y) w) (good_after r b (i * w) y) g)
               (ap (λ (j : ℕ). good_after r (b ++ y) j v) (sym q) ∙ o.good);
-          cut = λ t. cut-more n b y v t ls o.after l (o.cut t);
+          cut = λ t. cut_more n b y v t ls o.after l (o.cut t);
           rest = ap (λ (c : List ℕ). taken (next c) o.after) (sym (append_assoc b y v)) ∙ o.rest;
         }
 
-    pub row-took :
+    pub row_took :
         (n i : ℕ) (b : List ℕ) (ls : List (List ℕ)) (a : List ℕ) → taken (row_form r n i b next) ls ≡ some a → Took n i b ls a
     unfolding row_form taken cut_row good_after
-    row-took zero i b ls a e =
+    row_took zero i b ls a e =
         record {
           x = [];
           after = ls;
@@ -161,10 +161,10 @@ module _ (r : Row) where
           cut = λ t. refl;
           rest = ap (λ (c : List ℕ). taken (next c) ls) (append-nil b) ∙ e;
         }
-    row-took (suc n) i b [] a e = absurd (none-ne-some a e)
-    row-took (suc n) i b (y ∷ ls) a e =
+    row_took (suc n) i b [] a e = absurd (none-ne-some a e)
+    row_took (suc n) i b (y ∷ ls) a e =
         let f = taken_first (key_of r i) (line_good r i b) (λ (x : List ℕ). row_form r n (suc i) (b ++ x) next) y ls a e in
-        took_more n i b y ls a f.0 (row-took n (suc i) (b ++ y) ls a f.1)
+        took_more n i b y ls a f.0 (row_took n (suc i) (b ++ y) ls a f.1)
 
 -- all rows
 unfoldable pub cut_from : List Row → ℕ → List ℕ → List (List ℕ)
@@ -192,7 +192,7 @@ module _ (rest : List Row) (next : List ℕ → Form (List ℕ)) where
       let m = k + span r (take k ns) in
       let first = cut_row r (r.lines (take k ns)) k ns in
       ap (taken (rows_form (r ∷ rs) next (take k ns))) (append_assoc first (cut_from rs m ns) ls)
-      ∙ row-taken r (rows_form rs next) (r.lines (take k ns)) 0 k ns (cut_from rs m ns ++ ls) a g.0
+      ∙ row_taken r (rows_form rs next) (r.lines (take k ns)) 0 k ns (cut_from rs m ns ++ ls) a g.0
       (λ j h.
       let z : 0 * r.width + j ≡ j = omega (arith, zero-mul r.width) in
       ap (λ (i : ℕ). r.good (take (k + j) ns) i (get_or ns (k + j) 0)) z ∙ g.1 j h)
@@ -305,7 +305,7 @@ rows_took [] next b ls a e =
       rest = ap (λ (c : List ℕ). taken (next c) ls) (append-nil b) ∙ e;
     }
 rows_took (r ∷ rs) next b ls a e =
-    let o = row-took r (rows_form rs next) (r.lines b) 0 b ls a e in
+    let o = row_took r (rows_form rs next) (r.lines b) 0 b ls a e in
     let q = rows_took rs next (b ++ o.x) o.after a o.rest in
     record {
       x = o.x ++ q.x;

@@ -74,8 +74,8 @@ module _ (c : Code) (top : ℕ) (known : is_code c Other ≡ false) (moved : is_
           by_cases busy (λ u. absurd (true_false (rw (u, q, deaf)) t)) (λ u. u),
         ))
 
-    pub first-exactly : (busy : Bool) (b : ℕ) → (first_stage busy (code_of b) ≡ Instruction c) ↔ ((b ≡ code_number c) × (busy ≡ false))
-    first-exactly busy b = (told busy b, λ p. rw (p.0, p.1) (ap Instruction (code_back c)))
+    pub first_exactly : (busy : Bool) (b : ℕ) → (first_stage busy (code_of b) ≡ Instruction c) ↔ ((b ≡ code_number c) × (busy ≡ false))
+    first_exactly busy b = (told busy b, λ p. rw (p.0, p.1) (ap Instruction (code_back c)))
 
 -- nor does a later one
 pub stage_begun : (top : ℕ) (busy : Bool) (v : ℕ) (s : Stage) → s ≢ Opened → stage_after top busy v s ≢ Opened

@@ -149,27 +149,27 @@ module _
     past : List ℕ → ℕ
     past s = leading kind s + reach (drop (leading kind s) s)
 
-    past-step : (b : ℕ) (s : List ℕ) → kind b ≡ true → past (b ∷ s) ≡ suc (past s)
+    past_step : (b : ℕ) (s : List ℕ) → kind b ≡ true → past (b ∷ s) ≡ suc (past s)
     unfolding past leading
-    past-step b s t = simp t (suc-add _ _)
+    past_step b s t = simp t (suc-add _ _)
 
-    past-along :
+    past_along :
         (a t p r q : List ℕ) → leading kind a ≡ length a → Has t → p ++ r ≡ a ++ t → length p ≤ past (p ++ q)
     unfolding past leading
-    past-along a t [] r q d h e = omega arith
-    past-along [] t (b ∷ p) r q d h e =
+    past_along a t [] r q d h e = omega arith
+    past_along [] t (b ∷ p) r q d h e =
         let f : kind b ≡ false = by_cases (kind b) (λ y. absurd (suc-ne-zero (leading kind (p ++ r)) (simp y at (ap (leading kind) e ∙ other t h)))) (λ n. n) in
         let k : length (b ∷ p) ≤ reach ((b ∷ p) ++ q) = g.along (b ∷ p) r q (subst Has (sym e) h) in
         simp f (omega (arith, k))
-    past-along (c ∷ a) t (b ∷ p) r q d h e =
+    past_along (c ∷ a) t (b ∷ p) r q d h e =
         let y : kind b ≡ true = ap kind (same_first e) ∙ leading_first kind c a d in
-        omega (arith, past-along a t p r q (leading_rest kind c a d) h (same_rest e), past-step b (p ++ q) y)
+        omega (arith, past_along a t p r q (leading_rest kind c a d) h (same_rest e), past_step b (p ++ q) y)
 
-    some-then-along : (p r q : List ℕ) → AfterSome kind Has (p ++ r) → length p ≤ past_some kind reach (p ++ q)
+    some_then_along : (p r q : List ℕ) → AfterSome kind Has (p ++ r) → length p ≤ past_some kind reach (p ++ q)
     unfolding past leading
-    some-then-along [] r q h = omega arith
-    some-then-along (b ∷ p) r q h =
-        let k = past-along h.begun h.then (b ∷ p) r q h.some.each h.has h.text in
+    some_then_along [] r q h = omega arith
+    some_then_along (b ∷ p) r q h =
+        let k = past_along h.begun h.then (b ∷ p) r q h.some.each h.has h.text in
         let y : kind b ≡ true = first_of h.begun h.then b (p ++ r) h.some h.text in
         omega (arith, k, yes (past (b ∷ (p ++ q))) 0 (lt-ltb 0 (leading kind (b ∷ (p ++ q))) (simp y (omega arith))))
       where
@@ -177,14 +177,14 @@ module _
         first_of [] t c s o e = absurd (omega (arith, o.one))
         first_of (x ∷ a) t c s o e = ap kind (same_first e) ∙ leading_first kind x a o.each
 
-    some-then-within : (s : List ℕ) → past_some kind reach s ≤ length s
-    some-then-within s =
+    some_then_within : (s : List ℕ) → past_some kind reach s ≤ length s
+    some_then_within s =
         let n = leading kind s in
         pick_case (λ (m : ℕ). m ≤ length s) (ltb 0 n) (omega (arith, g.within (drop n s), length-drop n s, leading_within kind s)) (omega arith)
 
-    some-then-goes : (b : ℕ) → kind b ≡ true → (s : List ℕ) → (rest : List ℕ) × AfterSome kind Has (take (past_some kind reach s) s ++ rest)
+    some_then_goes : (b : ℕ) → kind b ≡ true → (s : List ℕ) → (rest : List ℕ) × AfterSome kind Has (take (past_some kind reach s) s ++ rest)
     unfolding leading
-    some-then-goes b y s =
+    some_then_goes b y s =
         let n = leading kind s in
         let a = take n s in
         let d = drop n s in
@@ -208,8 +208,8 @@ module _
           record { begun = b ∷ []; then = (any g).0; some = record { each = simp y; one = omega arith }; text = refl; has = (any g).1 },
         ))
 
-    some-then-reaches : (b : ℕ) → kind b ≡ true → Reaches (AfterSome kind Has) (past_some kind reach)
-    some-then-reaches b y = record { within = some-then-within; goes = some-then-goes b y; along = some-then-along }
+    some_then_reaches : (b : ℕ) → kind b ≡ true → Reaches (AfterSome kind Has) (past_some kind reach)
+    some_then_reaches b y = record { within = some_then_within; goes = some_then_goes b y; along = some_then_along }
 
 -- The form of a line, piece by piece, and that its reach is its own.
 abbrev FromArg : List ℕ → Type 0
@@ -225,7 +225,7 @@ no_letter t h = ap (leading letter) h.1.0
 form_reaches : Reaches (AfterWord op_text FromName) form_reach
 unfolding form_reach
 form_reaches =
-    word_reaches (some-then-reaches (word_reaches (some_reaches digit 0x30 refl) arg_text) letter no_letter 0x61 refl) op_text
+    word_reaches (some_then_reaches (word_reaches (some_reaches digit 0x30 refl) arg_text) letter no_letter 0x61 refl) op_text
 
 -- a line of the form, by its pieces and piece by piece
 in_pieces : (line : List ℕ) → Formed line → AfterWord op_text FromName line

@@ -87,22 +87,22 @@ module _
     (part : ℕ) (d : Device) (t : Tape) (line ee id : List ℕ) (e : t ≡ resumed_tape part d (length ee) (length id)) (y : Typed d ee id)
     (n : length line ≡ 65)
   where
-    begins-chip :
+    begins_chip :
         resumes part d (length ee) (length id) ≡ true
         → HasFed (setup part (world d (take (size_of part) ee) (take id_size id))) (loan t line ee id) []
     unfolding ResumesWith
-    begins-chip r =
+    begins_chip r =
         subst (λ (x : Tape). HasFed (setup part (world d (take (size_of part) ee) (take id_size id))) (loan x line ee id) []) (sym e)
         (resumes_with part d line ee id y n r)
 
-    pub resumed-fed : length ee ≡ 256 → length id ≡ 16 → IsFed (loan t line ee id)
-    resumed-fed a b =
+    pub resumed_fed : length ee ≡ 256 → length id ≡ 16 → IsFed (loan t line ee id)
+    resumed_fed a b =
         by_cases (resumes part d (length ee) (length id))
-        (λ r. (setup part (world d (take (size_of part) ee) (take id_size id)), ([], begins-chip r)))
+        (λ r. (setup part (world d (take (size_of part) ee) (take id_size id)), ([], begins_chip r)))
         (λ r. start_fed (loan t line ee id) (record { tape = e ∙ sym (no _ start_tape r); line = n; eeprom = a; id = b }))
 
-    pub runs-from :
+    pub runs_from :
         (t' : Tape) (line' ee' id' : List ℕ) → FedOn (loan t line ee id) (loan t' line' ee' id') → RunsFrom part d ee id t' ee' id'
-    runs-from t' line' ee' id' f r =
-        let p = f (setup part (world d (take (size_of part) ee) (take id_size id))) [] (begins-chip r) in
+    runs_from t' line' ee' id' f r =
+        let p = f (setup part (world d (take (size_of part) ee) (take id_size id))) [] (begins_chip r) in
         (line', (p.0, p.1))

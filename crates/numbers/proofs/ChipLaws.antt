@@ -1,7 +1,7 @@
 -- What code needs of a list that begins with the numbers of part and record: how long it is, and which field each number fits; and the list put together.
 -- Assumes nothing.
 use mathlib.Core.Path.{◌≡◌, refl, sym, ap, subst, ◌∙◌}
-use mathlib.Core.Bool.{true, false, not, ◌&&◌, ◌||◌}
+use mathlib.Core.Bool.{true, not, ◌&&◌, ◌||◌}
 use mathlib.Core.List.{List, [], ◌∷◌, ◌++◌, append_assoc}
 use Prim.Native.Nat.{ℕ, suc, ◌+◌, ◌-◌, ◌<◌, ◌≤◌}
 use native.Mathlib.Omega.{arith}
@@ -10,12 +10,12 @@ use lib.Dec.{ltb, eqb}
 use lib.ListN.{length, take, drop, get_or, set, length-drop}
 use lib.Seq.{take-suc-set, take-suc, take_all, get_or-drop}
 use native.Mathlib.Numerals.{add-one}
-use Rattle.base.specs.Words.{pick, bit, every}
+use Rattle.base.specs.Words.{bit, every}
 use Rattle.base.proofs.Tests.{by_cases, pick_case, both_left}
 use Rattle.base.proofs.Every.{bound_below}
 use Rattle.events.specs.Control.{even1, even0}
 use Rattle.record.specs.Codes.{code_of, code_number}
-use Rattle.record.specs.Part.{size_of, boots_of}
+use Rattle.record.specs.Part.{boots_of}
 use Rattle.record.specs.Stages.{foreign_to_wip}
 use Rattle.record.specs.Registers.{seconds_at, watchdog_at, event_at, period_of}
 use Rattle.record.proofs.PartLaws.{size_most}
@@ -82,7 +82,7 @@ fields ns f =
     record {
       divider = far f.divider (lit 32768 65536 refl);
       startup = low f.startup (pick_case Low (boots_of (part_in ns) || bit (register_in ns seconds_at) 7) (lit 33 256 refl) (lit 1 256 refl));
-      watchdog = far f.watchdog (period-low (register_in ns watchdog_at));
+      watchdog = far f.watchdog (period_low (register_in ns watchdog_at));
       delay = far f.delay (lit 2097153 4294967296 refl);
       pulse = far f.pulse (lit 4097 65536 refl);
       protection = far f.protection (lit 4 256 refl);
@@ -100,8 +100,8 @@ fields ns f =
       left = low f.left (pick_case Low (power_in ns && not (foreign_to_wip (stage_in ns))) (lit 165 256 refl) (lit 1 256 refl));
     }
   where
-    period-low : (v : ℕ) → period_of v ≤ 4294967296
-    period-low v = omega (arith, period_most v)
+    period_low : (v : ℕ) → period_of v ≤ 4294967296
+    period_low v = omega (arith, period_most v)
 
 -- the same of the event inputs
 pub record EventFields (k : ℕ) (ns : List ℕ) : Type 0 where
@@ -175,19 +175,19 @@ numbers_joined part d ee id =
 
 -- bytes of the record
 pub registers_there : (ns : List ℕ) → RecordFacts ns → (1 + 32 ≤ length ns) × BytesFrom ns 1 32
-registers_there ns f = (far-enough f.reach, f.reg_bytes)
+registers_there ns f = (far_enough f.reach, f.reg_bytes)
   where
-    far-enough : {n : ℕ} → 123 ≤ n → 33 ≤ n
-    far-enough h = omega (arith, h)
+    far_enough : {n : ℕ} → 123 ≤ n → 33 ≤ n
+    far_enough h = omega (arith, h)
 
 pub sram_there : (ns : List ℕ) → RecordFacts ns → (33 + 64 ≤ length ns) × BytesFrom ns 33 64
-sram_there ns f = (far-enough f.reach, f.sram)
+sram_there ns f = (far_enough f.reach, f.sram)
   where
-    far-enough : {n : ℕ} → 123 ≤ n → 97 ≤ n
-    far-enough h = omega (arith, h)
+    far_enough : {n : ℕ} → 123 ≤ n → 97 ≤ n
+    far_enough h = omega (arith, h)
 
 pub load_there : (ns : List ℕ) → RecordFacts ns → (111 + 8 ≤ length ns) × BytesFrom ns 111 8
-load_there ns f = (far-enough f.reach, f.load)
+load_there ns f = (far_enough f.reach, f.load)
   where
-    far-enough : {n : ℕ} → 123 ≤ n → 119 ≤ n
-    far-enough h = omega (arith, h)
+    far_enough : {n : ℕ} → 123 ≤ n → 119 ≤ n
+    far_enough h = omega (arith, h)

@@ -23,8 +23,8 @@ use Rattle.record.specs.declared.Place.TheVariants.{EepromAt, ClockAt, IdAt}
 use Rattle.record.specs.declared.Stage.{Stage}
 use Rattle.record.specs.declared.Stage.TheVariants.{Reading, Writing, Second}
 use Rattle.record.specs.Numbers.{place_of, pair_of, stage_of}
-use Rattle.record.specs.Part.{is_part, size_of, boots_of}
-use Rattle.record.specs.Registers.{seconds_at, watchdog_at, event_at, periods, period_of}
+use Rattle.record.specs.Part.{is_part, size_of}
+use Rattle.record.specs.Registers.{watchdog_at, event_at, periods, period_of}
 use Rattle.record.specs.Stages.{foreign_to_wip}
 use Rattle.form.specs.Table.{rows, register_good, part_in, register_in, power_in, startup_by, startup_limit, mark_limit, kind_limit, case_limit, case_good, value_limit, target_limit, left_by, left_limit, edges_by, since_by, debounce_by, chip_events, stage_good, target_good, part_row, register_row, sram_row, divider_row, startup_row, watchdog_row, delay_row, pulse_row, power_row, mark_row, wel_row, protection_row, lock_row, stage_row, offsets_row, load_row, next_row, target_row, left_row, eeprom_row, id_row, evls_row, evhs_row, edges_row, since_row, debounce_row}
 use Rattle.numbers.specs.Tables.{row_at, row_count}

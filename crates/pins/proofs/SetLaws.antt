@@ -1,13 +1,12 @@
 -- Laws of a pin that is set: what it leaves alone, and that it keeps a record in range.
 -- Assumes nothing.
-use Prim.Native.Nat.{ℕ, ◌<◌, ◌≤◌}
+use Prim.Native.Nat.{ℕ, ◌≤◌}
 use native.Mathlib.Omega.{arith}
 use mathlib.Core.Path.{◌≡◌, refl}
 use mathlib.Core.Bool.{Bool}
 use mathlib.Core.List.{List}
 use lib.ListN.{length, get_or, set, length-set}
 use Rattle.base.proofs.Tests.{pick_case}
-use Rattle.events.specs.declared.Inputs.{Inputs}
 use Rattle.events.specs.Pins.{drum_set, door_set, zeroes_watchdog}
 use Rattle.events.proofs.EmbedLaws.{drum_embeds, door_embeds}
 use Rattle.record.specs.declared.Counters.{Counters}
@@ -16,13 +15,13 @@ use Rattle.record.specs.declared.Pin.{Pin}
 use Rattle.record.specs.declared.Pin.TheVariants.{Evls, Evhs}
 use Rattle.record.specs.Part.{boots_of}
 use Rattle.record.specs.Registers.{oscon, watchdog_at, event_at}
-use Rattle.record.specs.Setters.{inputs_of, with_inputs}
+use Rattle.record.specs.Setters.{inputs_of}
 use Rattle.record.specs.World.{Sized}
 use Rattle.record.proofs.PeriodLaws.{period_least}
 use Rattle.record.proofs.WorldLaws.{sized_by}
 use Rattle.refusals.specs.InRange.{InRange}
 use Rattle.refusals.proofs.KeepLaws.{ClockOf, Beside, beside, watchdog_in, inputs_in_lem, inside_byte, in_range_beside}
-use Rattle.pins.specs.Set.{door_at, drum_at, after_set}
+use Rattle.pins.specs.Set.{drum_at, after_set}
 
 pub set_beside : (p : Pin) (level : ℕ) (d : Device) → Beside d (after_set p level d)
 unfolding after_set

@@ -7,7 +7,7 @@ use mathlib.Core.Bool.{true, false}
 use mathlib.Core.Logic.{inl, inr, ◌≢◌}
 use mathlib.Core.List.{List}
 use lib.ListN.{length, get_or}
-use lib.Seq.{get_or-set_same, get_or-set_other}
+use lib.Seq.{get_or-set_other}
 use Rattle.base.specs.Words.{every, bit}
 use Rattle.base.proofs.Tests.{pick_when, true_false, yes, no}
 use Rattle.base.proofs.Every.{same_from}

@@ -21,7 +21,7 @@ use Rattle.record.specs.declared.Counters.{Counters}
 use Rattle.record.specs.declared.Guard.{Guard}
 use Rattle.record.specs.Part.{boots_of}
 use Rattle.record.specs.Registers.{st, seconds_at, minutes_at, day_at, date_at, watchdog_at, event_at, power_down_at, kept, period_of, startup_ticks, divider_ticks, long_pulse, delay_ticks}
-use Rattle.record.specs.Setters.{with_regs, with_sram, with_counters, with_divider, with_startup, with_watchdog, with_delay, with_pulse, with_guard, with_left, with_events, inputs_of, with_inputs}
+use Rattle.record.specs.Setters.{with_regs, with_sram, with_counters, with_divider, with_startup, with_watchdog, with_delay, with_pulse, with_guard, with_left, with_events, with_inputs}
 use Rattle.record.specs.Stamps.{stamped, unstamped, with_vbat, without_vbat}
 use Rattle.record.proofs.StampLaws.{stamp_mask, stamped_each, unstamped_each}
 use Rattle.refusals.specs.InRange.{ClockRange, InRange}

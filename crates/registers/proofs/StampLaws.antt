@@ -20,7 +20,7 @@ use Rattle.record.specs.declared.Device.{Device}
 use Rattle.record.specs.declared.ClockAddress.{ClockAddress}
 use Rattle.record.specs.Registers.{vbat, day_at, month_at, alarm0_hours_at, alarm1_hours_at, power_down_at, writable}
 use Rattle.record.specs.Setters.{with_regs}
-use Rattle.record.specs.Stamps.{unstamped, without_vbat, NoStamps, SameStamps}
+use Rattle.record.specs.Stamps.{unstamped, NoStamps, SameStamps}
 use Rattle.record.proofs.StampLaws.{without_vbat_lem, unstamped_other, unstamped_zero}
 use Rattle.refusals.proofs.KeepLaws.{AllInside, inside_byte}
 use Rattle.registers.specs.Read.{read_clock}

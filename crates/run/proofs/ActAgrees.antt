@@ -39,7 +39,7 @@ use Rattle.ledger.specs.Frames.{running}
 use Rattle.ledger.specs.Steps as ledger
 use Rattle.refusals.proofs.KeepLaws.{Beside}
 use Rattle.run.proofs.Agree.{LockAgrees, FrameAgrees, TargetAgrees, CycleAgrees, StateAgrees, Agree}
-use Rattle.run.proofs.ByteAgrees.{byte-frame, byte_cycle}
+use Rattle.run.proofs.ByteAgrees.{byte_frame, byte_cycle}
 use Rattle.run.proofs.EndAgrees.{wel_agrees, lock_agrees, cycle_agrees}
 use Rattle.run.proofs.Entries.{Holds}
 use Rattle.run.proofs.Stored.{moved_memory, wait_memory, cut_memory, stored_holds, stored_bp, cut_holds, cut_bp}
@@ -109,7 +109,7 @@ module _ (s : World) (part : ℕ) (w : World) (l : Ledger) (a : Agree s part w l
         bp = a.state.bp ∙ ap (λ (g : Guard). protection_number g.protection) (sym b.guard);
         lock = subst (λ (g : Guard). LockAgrees g.lock l.lock) (sym b.guard) a.state.lock;
         frame =
-            byte-frame part v l.cycle (wip d) d.load l.frame known (ap (λ (n : ℕ). ltb 0 n) a.state.cycle.left)
+            byte_frame part v l.cycle (wip d) d.load l.frame known (ap (λ (n : ℕ). ltb 0 n) a.state.cycle.left)
             a.valid.range.frame.offset a.valid.shaped.sized.bytes d.frame.stage h a.state.frame;
         cycle =
             subst (λ (y : Cycle). CycleAgrees y (load_after d.load v d.frame.stage) l.cycle) (sym b.cycle)

@@ -137,32 +137,32 @@ module _ (part v : ℕ) (y : ledger.Cycle) (busy : Bool) (load : Load) (f : ledg
       (record { heard = q.heard ∙ h ∙ sym k.heard; code = λ t. q.code h ∙ sym k.code; count = n; brought = b })
 
   module _ (known : is_part part ≡ true) (runs : running y ≡ busy) (hn : load.next < 8) (hl : length load.bytes ≡ 8) where
-    place-data :
+    place_data :
         (p : Place) → code_of f.code ≡ writing_code p → 1 < f.count → PlaceAgrees p load f
         → PlaceAgrees (written_on p) (writing_load load v p) (later_byte part v f)
-    place-data (EepromAt a) e n q = later_data part v f a.0 load (addressed_at f Eewrite e) hn hl n q
-    place-data (ClockAt a) e n q = tt
-    place-data (IdAt a) e n q = later_data part v f a.0 load (addressed_at f Idwrite e) hn hl n q
+    place_data (EepromAt a) e n q = later_data part v f a.0 load (addressed_at f Eewrite e) hn hl n q
+    place_data (ClockAt a) e n q = tt
+    place_data (IdAt a) e n q = later_data part v f a.0 load (addressed_at f Idwrite e) hn hl n q
 
-    pub byte-frame :
+    pub byte_frame :
         (s : Stage) → selected s ≡ true → FrameAgrees s load f
         → FrameAgrees (stage_after (top_of part) busy v s) (load_after load v s) (frame_after part y v f)
     unfolding later_byte
-    byte-frame Idle h q = absurd (false≢true h)
-    byte-frame Opened h q = rw (eq-eqb f.count 0 q.count) (first_frame y busy v load runs)
-    byte-frame Unheard h q =
+    byte_frame Idle h q = absurd (false≢true h)
+    byte_frame Opened h q = rw (eq-eqb f.count 0 q.count) (first_frame y busy v load runs)
+    byte_frame Unheard h q =
         rw (ne_eqb f.count 0 (λ e. omega (arith, q.count)))
         (record { heard = q.heard; code = λ n. absurd (false≢true n); count = omega (arith, q.count); brought = tt })
-    byte-frame (Instruction c) h q =
+    byte_frame (Instruction c) h q =
         let b = second_data part v load f known c (q.code refl) q.count q.brought in
         goes_on (Instruction c) refl q.count.0 q b.0 b.1
-    byte-frame (Reading p) h q = goes_on (Reading p) refl (omega (arith, q.count)) q (omega (arith, q.count)) tt
-    byte-frame (Writing p) h q =
-        goes_on (Writing p) refl (omega (arith, q.count)) q (omega (arith, q.count)) (place-data p (q.code refl) q.count q.brought)
-    byte-frame (Second x) h q =
+    byte_frame (Reading p) h q = goes_on (Reading p) refl (omega (arith, q.count)) q (omega (arith, q.count)) tt
+    byte_frame (Writing p) h q =
+        goes_on (Writing p) refl (omega (arith, q.count)) q (omega (arith, q.count)) (place_data p (q.code refl) q.count q.brought)
+    byte_frame (Second x) h q =
         goes_on (Second x) refl (omega (arith, q.count)) q
         (pick_case (λ (k : ℕ). k < f.count + 1) (is_code (over_code (third_byte x)) Eewren || is_code (over_code (third_byte x)) Eewrdi) (omega (arith, q.count)) (omega (arith, q.count))) tt
-    byte-frame (Over x) h q = goes_on (Over x) refl (omega (arith, q.count)) q (omega (arith, q.count)) tt
+    byte_frame (Over x) h q = goes_on (Over x) refl (omega (arith, q.count)) q (omega (arith, q.count)) tt
 
 -- A byte of a frame that is heard while a cycle runs, or of one that is not heard, leaves the load.
 page_foreign : (c : Code) → writes_page c ≡ true → heard_under_wip c ≡ false

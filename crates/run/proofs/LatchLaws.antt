@@ -29,7 +29,7 @@ use Rattle.ticks.specs.RecordTick.{ended}
 use Rattle.ticks.specs.Tick.{waited}
 use Rattle.ticks.proofs.WaitLaws.{Spent, wait_spent, spent_ended}
 use Rattle.frames.specs.Frame.{first_stage, stage_after, after_byte, after_select}
-use Rattle.frames.proofs.AloneLaws.{Past, stage_past, first_begun, first-exactly}
+use Rattle.frames.proofs.AloneLaws.{Past, stage_past, first_begun, first_exactly}
 use Rattle.frames.proofs.FrameLaws.{written_beside}
 use Rattle.ends.specs.End.{after_end}
 use Rattle.ends.proofs.LatchLaws.{end_cleared, end_set}
@@ -112,15 +112,15 @@ module _ (part arg : ℕ) (w : World) where
   given act r on (cuts e) = rw e cut_clear
   given act r on (ups e) = rw e (up_wel d)
   given act r on (disables e) = rw e.0 ((end_cleared (top_of part) arg d on).1 (e.1, e.2))
-  given act r on (completes e runs all) = subst Clears (sym e) clears-wait r runs all
+  given act r on (completes e runs all) = subst Clears (sym e) clears_wait r runs all
     where
       Clears : Act → Type 0
       Clears a =
           refusal_in part a arg w ≡ 0 → 0 < d.cycle.left → (accepted part arg w a).count ≡ d.cycle.left
           → wel_of (accepted part arg w a).after ≡ false
 
-      clears-wait : Clears Wait
-      clears-wait r runs all = wait_clears part arg w (passed_range part Wait arg w r) (runs, all)
+      clears_wait : Clears Wait
+      clears_wait r runs all = wait_clears part arg w (passed_range part Wait arg w r) (runs, all)
 
   -- the same of what sets it
   set_told :
@@ -209,7 +209,7 @@ module _ (part : ℕ) (c : Code) (known : is_code c Other ≡ false) (moved : is
       let x : World = (performed part Byte b v).after in
       let m = byte_moves_lem part b v z.0 f in
       let q : stage_of x ≡ first_stage (wip v.device) (code_of b) = m.stage ∙ ap (stage_after (top_of part) (wip v.device) b) s in
-      let l = first-exactly c (top_of part) known moved deaf (wip v.device) b in (
+      let l = first_exactly c (top_of part) known moved deaf (wip v.device) b in (
         λ e.
             by_cases (eqb b (code_number c) && not (wip v.device))
             (λ t.

@@ -4,14 +4,14 @@ use mathlib.Core.Path.{◌≡◌, refl, sym, ap, subst, ◌∙◌}
 use mathlib.Core.Logic.{◌≢◌}
 use mathlib.Core.Bool.{Bool, true, false, not, ◌&&◌, ◌||◌}
 use mathlib.Core.List.{List, ◌∷◌, ◌++◌}
-use Prim.Native.Nat.{ℕ, zero, suc, ◌+◌, ◌-◌, ◌<◌, ◌≤◌}
+use Prim.Native.Nat.{ℕ, suc, ◌+◌, ◌-◌, ◌<◌, ◌≤◌}
 use native.Mathlib.Nat.{zero-add}
 use native.Mathlib.Numerals.{add-one}
 use native.Mathlib.Omega.{arith}
 use borrow.Author.Tests.{eq-eqb, eqb-true, ne_eqb, lt-ltb, le-ltb, ltb-true, ltb-false, not-false}
 use lib.Dec.{eqb, ltb}
 use lib.ListN.{length, take, drop, length-append, length-drop}
-use lib.Seq.{sets, sets-eq}
+use lib.Seq.{sets-eq}
 use Rattle.base.specs.Words.{pick, over}
 use Rattle.base.proofs.Tests.{by_cases, yes, no, both_true, neither_left, neither_right}
 use Rattle.record.specs.declared.Device.{Device}
@@ -93,20 +93,20 @@ module _ (part : ℕ) (w : World) (room : List ℕ) where
       ∙ no (written (saved_text part w) room) (not_saved (save_refusal part w (length room)) room) (ap (λ (n : ℕ). eqb n 0) r ∙ z)
 
   module _ (z : setup ≡ 0) where
-    fits-is : (t : Bool) → ltb (length room) (length (saved_text part w)) ≡ t → save_refusal part w (length room) ≡ pick t 8 0
-    fits-is t e = sym (yes (pick (ltb (length room) (length (saved_text part w))) 8 0) setup (eq-eqb setup 0 z)) ∙ ap (λ (b : Bool). pick b 8 0) e
+    fits_is : (t : Bool) → ltb (length room) (length (saved_text part w)) ≡ t → save_refusal part w (length room) ≡ pick t 8 0
+    fits_is t e = sym (yes (pick (ltb (length room) (length (saved_text part w))) 8 0) setup (eq-eqb setup 0 z)) ∙ ap (λ (b : Bool). pick b 8 0) e
 
-    pub save-short : (n : ℕ) → n ≡ length (saved_text part w) → length room < n → not_saved 8 room ≡ saves part w room
+    pub save_short : (n : ℕ) → n ≡ length (saved_text part w) → length room < n → not_saved 8 room ≡ saves part w room
     unfolding saves
-    save-short n e h =
-        let r = fits-is true (lt-ltb (length room) (length (saved_text part w)) (subst (λ (c : ℕ). length room < c) e h)) in
+    save_short n e h =
+        let r = fits_is true (lt-ltb (length room) (length (saved_text part w)) (subst (λ (c : ℕ). length room < c) e h)) in
         ap (λ (c : ℕ). not_saved c room) (sym r)
         ∙ no (written (saved_text part w) room) (not_saved (save_refusal part w (length room)) room) (ap (λ (c : ℕ). eqb c 0) r)
 
-    pub save-done : length (saved_text part w) ≤ length room → written (saved_text part w) room ≡ saves part w room
+    pub save_done : length (saved_text part w) ≤ length room → written (saved_text part w) room ≡ saves part w room
     unfolding saves
-    save-done h =
-        let r = fits-is false (le-ltb (length room) (length (saved_text part w)) h) in
+    save_done h =
+        let r = fits_is false (le-ltb (length room) (length (saved_text part w)) h) in
         yes (written (saved_text part w) room) (not_saved (save_refusal part w (length room)) room) (ap (λ (c : ℕ). eqb c 0) r)
 
 -- a text put at the beginning of a room
@@ -126,7 +126,7 @@ module _ (text : List ℕ) (part : ℕ) (w : World) (m : List ℕ) (at lines cou
   pub load_bad : (stopped || ltb at (length text)) ≡ true → loading 8 (lines + 1) part w ≡ loads text part w
   unfolding loads complete
   load_bad h =
-      let c : complete (reading (drop at text) lines stopped) ≡ false = not-whole in
+      let c : complete (reading (drop at text) lines stopped) ≡ false = not_whole in
       sym
       (ap (λ (l : Loaded (List ℕ)). load_answer l part w) (Gives ∙ sym (no (loaded ns) (bad (suc lines)) c))
       ∙ ap (λ (n : ℕ). loading 8 n part w) (sym (add-one lines)))
@@ -137,8 +137,8 @@ module _ (text : List ℕ) (part : ℕ) (w : World) (m : List ℕ) (at lines cou
       longer : {n : ℕ} → n ≡ length text - at → at < length text → n ≢ 0
       longer e l z = omega (arith, e, l, z)
 
-      not-whole : (not stopped && eqb (length (drop at text)) 0) ≡ false
-      not-whole =
+      not_whole : (not stopped && eqb (length (drop at text)) 0) ≡ false
+      not_whole =
           by_cases stopped (λ s. rw s)
           (λ s.
           let l : at < length text = ltb-true at (length text) (other s h) in
@@ -152,23 +152,23 @@ module _ (text : List ℕ) (part : ℕ) (w : World) (m : List ℕ) (at lines cou
         none : {n : ℕ} → n ≡ length text - at → n ≡ 0
         none e = omega (arith, e, ltb-false at (length text) (neither_right stopped (ltb at (length text)) h))
 
-    pub chip-read : IsChip ns
-    chip-read = (loads_text text ns whole).0
+    pub chip_read : IsChip ns
+    chip_read = (loads_text text ns whole).0
 
     pub record_read : RecordFacts ns
-    record_read = (good_facts ns chip-read).chip.first
+    record_read = (good_facts ns chip_read).chip.first
 
-    pub events-read : (k : ℕ) → k ≡ chip_events ns → EventFacts k ns × (k + 5 ≤ length ns)
-    events-read k e =
-        let f = good_facts ns chip-read in
+    pub events_read : (k : ℕ) → k ≡ chip_events ns → EventFacts k ns × (k + 5 ≤ length ns)
+    events_read k e =
+        let f = good_facts ns chip_read in
         (subst (λ (n : ℕ). EventFacts n ns) (sym e) f.events, room e f.long)
       where
         room : {a b n : ℕ} → a ≡ b → n ≡ b + 5 → a + 5 ≤ n
         room p q = omega (arith, p, q)
 
-    pub load-misfit : wrong_length (part_in ns) (length w.eeprom) (length w.id) ≡ true → loading 4 0 part w ≡ loads text part w
+    pub load_misfit : wrong_length (part_in ns) (length w.eeprom) (length w.id) ≡ true → loading 4 0 part w ≡ loads text part w
     unfolding loads
-    load-misfit e = sym (ap (λ (l : Loaded (List ℕ)). load_answer l part w) whole ∙ sym (yes (loading 4 0 part w) (loading 0 0 (part_in ns) (world_of ns)) e))
+    load_misfit e = sym (ap (λ (l : Loaded (List ℕ)). load_answer l part w) whole ∙ sym (yes (loading 4 0 part w) (loading 0 0 (part_in ns) (world_of ns)) e))
 
     module _ (e : wrong_length (part_in ns) (length w.eeprom) (length w.id) ≡ false) where
       abbrev l₁ : Bool
@@ -177,38 +177,38 @@ module _ (text : List ℕ) (part : ℕ) (w : World) (m : List ℕ) (at lines cou
       abbrev l₂ : Bool
       l₂ = not (eqb (length w.id) id_size)
 
-      pub eeprom-long : length w.eeprom ≡ size_of (part_in ns)
-      eeprom-long = eqb-true (length w.eeprom) (size_of (part_in ns)) (not-false _ (neither_left l₁ l₂ e))
+      pub eeprom_long : length w.eeprom ≡ size_of (part_in ns)
+      eeprom_long = eqb-true (length w.eeprom) (size_of (part_in ns)) (not-false _ (neither_left l₁ l₂ e))
 
-      pub id-long : length w.id ≡ 16
-      id-long = eqb-true (length w.id) id_size (not-false _ (neither_right l₁ l₂ e))
+      pub id_long : length w.id ≡ 16
+      id_long = eqb-true (length w.id) id_size (not-false _ (neither_right l₁ l₂ e))
 
-      pub eeprom-there : (123 + length w.eeprom ≤ length ns) × BytesFrom ns 123 (length w.eeprom)
-      eeprom-there =
-          let f = good_facts ns chip-read in
-          (within f.chip.reach eeprom-long, subst (BytesFrom ns 123) (sym eeprom-long) f.chip.eeprom)
+      pub eeprom_there : (123 + length w.eeprom ≤ length ns) × BytesFrom ns 123 (length w.eeprom)
+      eeprom_there =
+          let f = good_facts ns chip_read in
+          (within f.chip.reach eeprom_long, subst (BytesFrom ns 123) (sym eeprom_long) f.chip.eeprom)
         where
           within : {n a s : ℕ} → 123 + s + 16 ≤ n → a ≡ s → 123 + a ≤ n
           within p q = omega (arith, p, q)
 
-      pub id-there : (ee : ℕ) → ee ≡ length w.eeprom → (123 + ee + length w.id ≤ length ns) × BytesFrom ns (123 + ee) (length w.id)
-      id-there ee q =
-          let f = good_facts ns chip-read in
-          let p : ee ≡ size_of (part_in ns) = q ∙ eeprom-long in (
-            within f.chip.reach p id-long,
-            subst (BytesFrom ns (123 + ee)) (sym id-long) (subst (λ (k : ℕ). BytesFrom ns (123 + k) 16) (sym p) f.chip.id),
+      pub id_there : (ee : ℕ) → ee ≡ length w.eeprom → (123 + ee + length w.id ≤ length ns) × BytesFrom ns (123 + ee) (length w.id)
+      id_there ee q =
+          let f = good_facts ns chip_read in
+          let p : ee ≡ size_of (part_in ns) = q ∙ eeprom_long in (
+            within f.chip.reach p id_long,
+            subst (BytesFrom ns (123 + ee)) (sym id_long) (subst (λ (k : ℕ). BytesFrom ns (123 + k) 16) (sym p) f.chip.id),
           )
         where
           within : {n a s i : ℕ} → 123 + s + 16 ≤ n → a ≡ s → i ≡ 16 → 123 + a + i ≤ n
           within p q u = omega (arith, p, q, u)
 
-      pub load-done :
+      pub load_done :
           (ee id : List ℕ) (d : Device) (k : ℕ) → k ≡ length w.eeprom → ee ≡ take (length w.eeprom) (drop 123 ns)
           → id ≡ take (length w.id) (drop (123 + k) ns) → d ≡ device_from (chip_events ns) ns → loading 0 0 (part_in ns) (world d ee id) ≡ loads text part w
       unfolding loads world_of
-      load-done ee id d k q ex ix dx =
+      load_done ee id d k q ex ix dx =
           (λ z.
           loading 0 0 (part_in ns)
-          (world (dx z) ((ex ∙ ap (λ (n : ℕ). take n (drop 123 ns)) eeprom-long) z)
-          ((ix ∙ (λ y. take (id-long y) (drop (123 + (q ∙ eeprom-long) y) ns))) z)))
+          (world (dx z) ((ex ∙ ap (λ (n : ℕ). take n (drop 123 ns)) eeprom_long) z)
+          ((ix ∙ (λ y. take (id_long y) (drop (123 + (q ∙ eeprom_long) y) ns))) z)))
           ∙ sym (ap (λ (l : Loaded (List ℕ)). load_answer l part w) whole ∙ sym (no (loading 4 0 part w) (loading 0 0 (part_in ns) (world_of ns)) e))

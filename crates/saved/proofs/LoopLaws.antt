@@ -118,11 +118,11 @@ good_alike (suc (suc (suc (suc (suc (suc (suc (suc (suc (suc (suc (suc (suc (suc
 -- The numbers of a line, one after the other.
 after_snoc : (r : Row) (b : List ℕ) (j : ℕ) (x : List ℕ) (n : ℕ) → good_after r b j (x ++ (n ∷ [])) ≡ good_after r b j x && r.good (b ++ x) (j + length x) n
 unfolding good_after
-after_snoc r b j [] n = (λ q. r.good (sym (append-nil b) q) (sym (add-zero j) q) n && true) ∙ and-true (r.good (b ++ []) (j + 0) n)
+after_snoc r b j [] n = (λ q. r.good (sym (append-nil b) q) (sym (add-zero j) q) n && true) ∙ and_true (r.good (b ++ []) (j + 0) n)
   where
-    and-true : (t : Bool) → (t && true) ≡ t
-    and-true true = refl
-    and-true false = refl
+    and_true : (t : Bool) → (t && true) ≡ t
+    and_true true = refl
+    and_true false = refl
 after_snoc r b j (m ∷ x) n =
     let p : suc j + length x ≡ j + suc (length x) = omega arith in
     ap (λ (t : Bool). r.good b j m && t) (after_snoc r (b ++ (m ∷ [])) (suc j) x n ∙ (λ q. good_after r (b ++ (m ∷ [])) (suc j) x && r.good (append_snoc b m x q) (p q) n))
@@ -158,10 +158,10 @@ module _ (r : Row) (b : List ℕ) (first w : ℕ) (s₀ : Reading) where
   next_number j s good m h g =
       let o : w - j ≡ suc (w - (j + 1)) = omega arith in
       let l : j < length all = subst (λ (k : ℕ). j < k) (sym (run_length w s₀)) h in
-      first-same (sym (drop-cons all j 0 l) ∙ ap (λ (x : Got). x.numbers) (sym g.left ∙ ap (λ (k : ℕ). run_of k s) o))
+      first_same (sym (drop-cons all j 0 l) ∙ ap (λ (x : Got). x.numbers) (sym g.left ∙ ap (λ (k : ℕ). run_of k s) o))
     where
-      first-same : {a c : ℕ} {x y : List ℕ} → ◌≡◌ {A = List ℕ} (a ∷ x) (c ∷ y) → a ≡ c
-      first-same e = ap (λ (l : List ℕ). get_or l 0 0) e
+      first_same : {a c : ℕ} {x y : List ℕ} → ◌≡◌ {A = List ℕ} (a ∷ x) (c ∷ y) → a ≡ c
+      first_same e = ap (λ (l : List ℕ). get_or l 0 0) e
 
   pub went_more :
       (count : ℕ) → length b ≡ count → (j : ℕ) (s : Reading) (good : Bool) (m : List ℕ) (v : ℕ) (t u : Reading) (g : Bool) → j < w → count + w ≤ number_limit → Went j s good m
@@ -562,28 +562,28 @@ module _ (text : List ℕ) (m : List ℕ) (at lines count : ℕ) (stopped : Bool
   first_read r = ap (λ (rs : List Row). rows_read rs begun) (sym older_is) ∙ sym r.whole
 
   module _ (r : RowsRead (rows_in 0 21) 21 begun m s count) where
-    text-is : text_read text ≡ groups_read later_groups (got (take count m) s)
-    text-is = ap (groups_read later_groups) (first_read r)
+    text_is : text_read text ≡ groups_read later_groups (got (take count m) s)
+    text_is = ap (groups_read later_groups) (first_read r)
 
-    pub few-read : count ≤ 395
+    pub few_read : count ≤ 395
     unfolding most
-    few-read = r.few
+    few_read = r.few
 
-    pub text-ended : (stopped || ltb at (length text)) ≡ false → TextRead text m s (count + 5)
+    pub text_ended : (stopped || ltb at (length text)) ≡ false → TextRead text m s (count + 5)
     unfolding groups_read zeros_after evls_row evhs_row edges_row since_row debounce_row
-    text-ended t =
+    text_ended t =
         let b = take count m in
         let c = complete_at text at lines stopped false t in
-        let here : length b ≡ count = held_long m count r.list (under few-read) in
-        let full : m ≡ filled (b ++ replicate 5 0) = r.list.list ∙ filled_zeros b 5 (room here few-read) in
+        let here : length b ≡ count = held_long m count r.list (under few_read) in
+        let full : m ≡ filled (b ++ replicate 5 0) = r.list.list ∙ filled_zeros b 5 (room here few_read) in
         let long : length (b ++ replicate 5 0) ≡ count + 5 = length-append b (replicate 5 0) ∙ ap (λ (n : ℕ). n + 5) here in
-        let h : Holds m (count + 5) = subst (λ (l : List ℕ). Holds l (count + 5)) (sym full) (holds (b ++ replicate 5 0) (count + 5) long (more few-read)) in
+        let h : Holds m (count + 5) = subst (λ (l : List ℕ). Holds l (count + 5)) (sym full) (holds (b ++ replicate 5 0) (count + 5) long (more few_read)) in
         let e : take (count + 5) m ≡ b ++ replicate 5 0 =
         ap (take (count + 5)) full ∙ ap (λ (n : ℕ). take n (filled (b ++ replicate 5 0))) (sym long) ∙ filled_start (b ++ replicate 5 0) in
         record {
           list = h;
-          whole = ap (λ (x : List ℕ). got x s) e ∙ yes (got (b ++ replicate 5 0) s) (rows_read (event_rows chip_events) (got b s)) c ∙ sym text-is;
-          few = more few-read;
+          whole = ap (λ (x : List ℕ). got x s) e ∙ yes (got (b ++ replicate 5 0) s) (rows_read (event_rows chip_events) (got b s)) c ∙ sym text_is;
+          few = more few_read;
           fewer = up r.fewer;
         }
       where
@@ -599,11 +599,11 @@ module _ (text : List ℕ) (m : List ℕ) (at lines count : ℕ) (stopped : Bool
         up : {n k : ℕ} → n ≤ k → n ≤ k + 5
         up p = omega (arith, p)
 
-    pub text-on :
+    pub text_on :
         (m' : List ℕ) (s' : Reading) (count' : ℕ) → (stopped || ltb at (length text)) ≡ true → RowsRead (rows_in 21 26) 26 (got (take count m) s) m' s' count'
         → TextRead text m' s' count'
     unfolding groups_read most
-    text-on m' s' count' t q =
+    text_on m' s' count' t q =
         let b = take count m in
         let c = complete_at text at lines stopped true t in
         record {
@@ -612,7 +612,7 @@ module _ (text : List ℕ) (m : List ℕ) (at lines count : ℕ) (stopped : Bool
               q.whole
               ∙ ap (λ (rs : List Row). rows_read rs (got b s)) events_are
               ∙ no (got (b ++ zeros_after (in_groups later_groups) b) s) (rows_read (event_rows chip_events) (got b s)) c
-              ∙ sym text-is;
+              ∙ sym text_is;
           few = q.few;
           fewer = q.fewer;
         }

@@ -172,13 +172,13 @@ module _ (r : Row) (n i k w at : ℕ) (ns : List ℕ) (ew : w ≡ r.width) (ep :
     abbrev rest : List ℕ
     rest = row_text r (n - (i + 1)) (i + 1) (k + (i + 1) * r.width) ns
 
-    pub line-room : o.at + length all ≤ length o.bytes → b.at + length (line_text (key_of r i) (take w (drop at ns))) ≤ length b.bytes
-    line-room room =
+    pub line_room : o.at + length all ≤ length o.bytes → b.at + length (line_text (key_of r i) (take w (drop at ns))) ≤ length b.bytes
+    line_room room =
         subst (λ (t : List ℕ). b.at + length t ≤ length b.bytes) (sym line_same)
         (part_room o all (row_text r (n - i) i (k + i * r.width) ns) (line_text (key_of r i) (numbers_at r (k + i * r.width) ns)) rest b p (row_next r n i k ns h) room)
 
-    pub line-put : (b' : Buffer) → b' ≡ append b (line_text (key_of r i) (take w (drop at ns))) → Part o all rest b'
-    line-put b' e =
+    pub line_put : (b' : Buffer) → b' ≡ append b (line_text (key_of r i) (take w (drop at ns))) → Part o all rest b'
+    line_put b' e =
         part_more o all (row_text r (n - i) i (k + i * r.width) ns) (line_text (key_of r i) (numbers_at r (k + i * r.width) ns)) rest b b' p (row_next r n i k ns h)
         (e ∙ ap (append b) line_same)
 

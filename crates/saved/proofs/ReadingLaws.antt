@@ -10,10 +10,10 @@ use native.Mathlib.Omega.{arith}
 use native.Mathlib.Nat.{add-zero, zero-add}
 use borrow.Author.Tests.{eq-eqb, eqb-true, ne_eqb, le-leb, ltb-true, ltb-false, not-true, not-false}
 use lib.Dec.{eqb, leb, ltb}
-use lib.ListN.{length, take, drop, length-drop, take-append-drop}
+use lib.ListN.{length, drop, length-drop, take-append-drop}
 use lib.Seq.{drop-append_seam, take-append_seam}
 use Rattle.base.specs.Words.{pick}
-use Rattle.base.proofs.Tests.{by_cases, yes, no, pick_case, both_left, both_right, both_true, neither, neither_left, neither_right, true_false}
+use Rattle.base.proofs.Tests.{by_cases, yes, no, pick_case, both_left, both_right, both_true, neither_left, neither_right, true_false}
 use Rattle.text.specs.Bytes.{agreed, begins, leading, digit, newline}
 use Rattle.text.specs.Decimal.{decimal_text}
 use Rattle.text.proofs.BytesLaws.{leading_append, leading_taken, agreed_with}
@@ -289,11 +289,11 @@ reading_begins f text = refl
 
 some_line : (b : ℕ) (t : List ℕ) → 0 < length (lines_in (b ∷ t))
 unfolding lines_in
-some_line b t = pick_case (λ (ps : List (List ℕ)). 0 < length ps) (eqb b newline) (omega arith) (some-onto (lines_in t))
+some_line b t = pick_case (λ (ps : List (List ℕ)). 0 < length ps) (eqb b newline) (omega arith) (some_onto (lines_in t))
   where
-    some-onto : (ps : List (List ℕ)) → 0 < length (onto b ps)
-    some-onto [] = omega arith
-    some-onto (p ∷ ps) = omega arith
+    some_onto : (ps : List (List ℕ)) → 0 < length (onto b ps)
+    some_onto [] = omega arith
+    some_onto (p ∷ ps) = omega arith
 
 later_loaded : {A : Type 0} (n : ℕ) (a : A) → later_by n (loaded a) ≡ loaded a
 unfolding later_by

@@ -19,8 +19,8 @@ use Rattle.record.specs.Stages.{foreign_to_wip}
 use Rattle.record.proofs.PartLaws.{size_most}
 use Rattle.record.proofs.PeriodLaws.{period_most}
 use Rattle.form.specs.Lines.{head_of}
-use Rattle.form.specs.Form.{Form, done, line, Loaded, loaded, bad, load}
-use Rattle.form.specs.Table.{Row, row, part_in, register_in, power_in, stage_in, case_limit, value_limit, target_limit, stage_good, target_good, key_of, good_after, line_good, row_form, rows_form, zeros_after, groups_form, chip_events, older_rows, event_rows, later_groups, in_groups, rows, chip_form, part_row, register_row, sram_row, divider_row, startup_row, watchdog_row, delay_row, pulse_row, power_row, mark_row, wel_row, protection_row, lock_row, stage_row, offsets_row, load_row, next_row, target_row, left_row, eeprom_row, id_row, evls_row, evhs_row, edges_row, since_row, debounce_row}
+use Rattle.form.specs.Form.{Form, done, Loaded, loaded, bad, load}
+use Rattle.form.specs.Table.{Row, part_in, register_in, power_in, stage_in, case_limit, value_limit, target_limit, stage_good, target_good, key_of, good_after, line_good, row_form, rows_form, zeros_after, groups_form, chip_events, older_rows, event_rows, later_groups, in_groups, rows, chip_form, part_row, register_row, sram_row, divider_row, startup_row, watchdog_row, delay_row, pulse_row, power_row, mark_row, wel_row, protection_row, lock_row, stage_row, offsets_row, load_row, next_row, target_row, left_row, eeprom_row, id_row, evls_row, evhs_row, edges_row, since_row, debounce_row}
 use Rattle.form.proofs.TableLaws.{RowLive, RowsLive, GroupsLive}
 use Rattle.form.proofs.EventLaws.{number_most, debounce_most}
 use Rattle.form.proofs.LiveLaws.{older_live, later_live}
@@ -222,7 +222,7 @@ table_bounded = (
         (
           λ b j n. low n _ (pick_case Low (boots_of (part_in b) || bit (register_in b seconds_at) 7) (lit 33 refl) (lit 1 refl)),
           (
-            λ b j n. low n (period_of (register_in b watchdog_at)) (period-low (register_in b watchdog_at)),
+            λ b j n. low n (period_of (register_in b watchdog_at)) (period_low (register_in b watchdog_at)),
             (
               λ b j n. low n 2097153 (lit 2097153 refl),
               (
@@ -273,8 +273,8 @@ table_bounded = (
   ),
 )
   where
-    period-low : (v : ℕ) → Low (period_of v)
-    period-low v = omega (arith, period_most v)
+    period_low : (v : ℕ) → Low (period_of v)
+    period_low v = omega (arith, period_most v)
 
 older_bounded : RowsBounded older_rows
 unfolding rows

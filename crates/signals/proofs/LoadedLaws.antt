@@ -1,6 +1,6 @@
 -- From a record that has counted something, the events' claim: its counts are moves that stand behind the run's.
 -- Assumes nothing.
-use mathlib.Core.Path.{◌≡◌, refl, ap, ◌∙◌}
+use mathlib.Core.Path.{refl, ap, ◌∙◌}
 use mathlib.Core.List.{List, ◌++◌}
 use Rattle.events.specs.declared.Inputs.{Inputs}
 use Rattle.events.specs.Control.{evhif, evlif, number_of, debounce_of}

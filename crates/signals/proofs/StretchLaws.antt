@@ -1,19 +1,19 @@
 -- Of lists of moves alone: the events' claims, where the newest moves are those of one act; and what moves without a write leave of the flags.
 -- Assumes nothing.
 use Prim.Native.Nat.{ℕ, ◌<◌}
-use mathlib.Core.Path.{◌≡◌, refl, sym, ap, ◌∙◌}
+use mathlib.Core.Path.{◌≡◌, refl, ap, ◌∙◌}
 use mathlib.Core.Bool.{Bool, true, false, not, ◌&&◌}
 use mathlib.Core.Logic.{◌↔◌}
 use mathlib.Core.List.{List, [], ◌∷◌, ◌++◌, nil≢cons}
 use lib.Dec.{ltb}
-use Rattle.base.proofs.Tests.{pick_case, neither, neither_left, neither_right, true_false}
+use Rattle.base.proofs.Tests.{pick_case, neither_left, neither_right, true_false}
 use Rattle.events.specs.declared.Inputs.{Inputs}
 use Rattle.events.specs.Control.{evhif, evlif, even1, even0, evwdt, number_of, debounce_of, low_runs, window_ticks}
 use Rattle.events.specs.Tick.{window_runs, window_tick, events_tick}
 use Rattle.events.specs.Story.{Move, after, writing, written, Window, Steady, HighReady, LowReady}
 use Rattle.events.proofs.ControlLaws.{Settings}
 use Rattle.events.proofs.MoveLaws.{High, debounce_high, window_control, leaves, settings_after}
-use Rattle.events.proofs.StoryLaws.{after_join, high_exact_lem, low_exact_lem, high_off_lem, low_off_lem}
+use Rattle.events.proofs.StoryLaws.{high_exact_lem, low_exact_lem, high_off_lem, low_off_lem}
 
 -- what is written in none of two lists
 pub written_older : (x y : List Move) → written (x ++ y) ≡ false → written y ≡ false

@@ -1,10 +1,8 @@
 -- What the event inputs promise over runs of the chip, from any record in range, waits and refused acts among the acts. What each act is in moves
 -- stands in Moves; `Window`, `Steady` and `Closed` (the events' Story) speak of moves alone, not of the chip's counts.
 -- Assumes nothing.
-use Rattle.std.specs.Prelude.{ℕ, zero, suc, ◌-◌, ◌<◌, ◌≡◌, Bool, true, false, not, ◌&&◌, ◌||◌, ◌↔◌, ◌≢◌, List, [], ◌∷◌, ◌++◌, ltb, get_or}
-use Rattle.base.specs.Words.{pick}
+use Rattle.std.specs.Prelude.{ℕ, ◌<◌, ◌≡◌, Bool, true, false, not, ◌&&◌, ◌||◌, ◌↔◌, ◌≢◌, List, ◌++◌, get_or}
 use Rattle.base.specs.Wait.{steps}
-use Rattle.events.specs.declared.Events.{Events}
 use Rattle.events.specs.Control.{evhif, evlif, even1, even0, evwdt, number_of, debounce_of}
 use Rattle.events.specs.Pins.{control_written}
 use Rattle.events.specs.Story.{Move, after, written, Window, Steady, HighReady, LowReady}

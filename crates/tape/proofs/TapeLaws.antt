@@ -184,8 +184,8 @@ module _
     (f : Sofar s₀ chunk o₀ from (state s b) o)
     (left : List ℕ) (d : left ≡ drop from chunk) (n : ℕ) (q : n ≡ leading plain left) (p : List ℕ) (t : p ≡ take n left)
   where
-    piece-fed : taken_from s₀ chunk o₀ ≡ later from (later n (taken_from (state s (head (b ++ p))) (drop n left) o))
-    piece-fed =
+    piece_fed : taken_from s₀ chunk o₀ ≡ later from (later n (taken_from (state s (head (b ++ p))) (drop n left) o))
+    piece_fed =
         let h : n ≤ length left = omega (arith, leading_within plain left) in
         let l : length p ≡ n = ap length t ∙ length-take-le n left h in
         let k : leading plain p ≡ length p = rw (t, q) (leading_taken plain left) in
@@ -196,15 +196,15 @@ module _
         ∙ ap (later from) (feed_plain p (drop n left) s b o k)
         ∙ ap (λ (m : ℕ). later from (later m (taken_from (state s (head (b ++ p))) (drop n left) o))) l
 
-    newline-left : n < length left → drop n left ≡ newline ∷ drop (suc n) left
-    newline-left h =
+    newline_left : n < length left → drop n left ≡ newline ∷ drop (suc n) left
+    newline_left h =
         let e : eqb (get_or left n 0) newline ≡ true = not-false (eqb (get_or left n 0) newline) (rw q (leading_ends plain left (rw q at h))) in
         drop-cons left n 0 h ∙ ap (λ (x : ℕ). x ∷ drop (suc n) left) (eqb-true (get_or left n 0) newline e)
 
-    pub turn-stop :
+    pub turn_stop :
         (n ≡ length left) ⊎ (room_in o < answer_room) → (l : List ℕ) → l ≡ head (b ++ p)
         → ◌≡◌ {A = Taken} (record { after = state s l; written = o; count = from + n }) (taken_from s₀ chunk o₀)
-    turn-stop h l e =
+    turn_stop h l e =
         let x = state s (head (b ++ p)) in
         let none : length left ≤ n → taken_from x (drop n left) o ≡ still o x =
         λ k. ap (λ (y : List ℕ). taken_from x y o) (drop_of_length-le left {i = n} k) ∙ feed_none x o in
@@ -212,22 +212,22 @@ module _
         ⊎_elim (λ (k : n ≡ length left). none (omega arith))
         (λ (k : room_in o < answer_room).
         by_cases (ltb n (length left))
-        (λ m. ap (λ (y : List ℕ). taken_from x y o) (newline-left (ltb-true n (length left) m)) ∙ feed_full (drop (suc n) left) x o k)
+        (λ m. ap (λ (y : List ℕ). taken_from x y o) (newline_left (ltb-true n (length left) m)) ∙ feed_full (drop (suc n) left) x o k)
         (λ m. none (ltb-false n (length left) m)))
         h in
         ap (λ (y : List ℕ). record { after = state s y; written = o; count = from + n }) e
         ∙ same_count (still o x) (omega arith)
-        ∙ sym (piece-fed ∙ ap (λ (y : Taken). later from (later n y)) stopped)
+        ∙ sym (piece_fed ∙ ap (λ (y : Taken). later from (later n y)) stopped)
 
-    pub turn-line :
+    pub turn_line :
         n < length left → answer_room ≤ room_in o → (s' : Setup) (o' : Buffer) → s' ≡ (line_answer (head (b ++ p)) s).after
         → o' ≡ append o (answer_text (line_answer (head (b ++ p)) s)) → Sofar s₀ chunk o₀ (from + n + 1) (state s' []) o'
-    turn-line h r s' o' e q' =
+    turn_line h r s' o' e q' =
         let y = state s (head (b ++ p)) in
         let k : from + suc n ≡ from + n + 1 = omega arith in
         let g : drop (suc n) left ≡ drop (from + n + 1) chunk = ap (drop (suc n)) d ∙ drop-drop (suc n) from chunk ∙ ap (λ (m : ℕ). drop m chunk) k in
-        piece-fed
-        ∙ ap (λ (l : List ℕ). later from (later n (taken_from y l o))) (newline-left h)
+        piece_fed
+        ∙ ap (λ (l : List ℕ). later from (later n (taken_from y l o))) (newline_left h)
         ∙ ap (λ (z : Taken). later from (later n z)) (feed_newline (drop (suc n) left) y o r)
         ∙ same_count (taken_from (ended y).after (drop (suc n) left) (append o (ended y).answers)) (omega arith)
         ∙ ap (λ (l : List ℕ). later (from + n + 1) (taken_from (ended y).after l (append o (ended y).answers))) g

@@ -87,9 +87,9 @@ module _
         let g : 10 ≤ n = ltb-false n 10 f in
         more n (text_within k (n / 10)) g (within k (n / 10) (omega arith)))
 
-    pub decimal-each : (n : ℕ) → P n (decimal_text n)
+    pub decimal_each : (n : ℕ) → P n (decimal_text n)
     unfolding decimal_text
-    decimal-each n = within (suc n) n (omega arith)
+    decimal_each n = within (suc n) n (omega arith)
 
 -- how long a text is
 tenth : (n m : ℕ) → n < m * 10 → n / 10 < m
@@ -104,13 +104,13 @@ places_more n s h l (suc k) b =
     omega (arith, length-append s (digit_text (n % 10) ∷ []), l k (tenth n (10 ^ suc k) (rw pow-suc at b)))
 
 pub decimal_places : (k n : ℕ) → n < 10 ^ suc k → length (decimal_text n) ≤ suc k
-decimal_places k n = decimal-each Places (λ n h k b. omega arith) places_more n k
+decimal_places k n = decimal_each Places (λ n h k b. omega arith) places_more n k
 
 -- reading what was written gives the number back
 pub value_of_decimal : (n : ℕ) → value_of (decimal_text n) ≡ n
 unfolding value_from
 value_of_decimal =
-    decimal-each (λ n s. value_of s ≡ n) (λ n h. omega arith)
+    decimal_each (λ n s. value_of s ≡ n) (λ n h. omega arith)
     (λ n s h e. value_append 0 s (digit_text (n % 10) ∷ []) ∙ simp e (omega arith))
 
 -- writing what was read gives the digits back, where there is no needless zero
@@ -162,7 +162,7 @@ one_digit d h = simp (le-leb 48 (48 + d) (omega arith), le-leb (48 + d) 57 (omeg
 
 pub decimal_digits : (n : ℕ) → leading digit (decimal_text n) ≡ length (decimal_text n)
 decimal_digits =
-    decimal-each (λ n s. leading digit s ≡ length s) one_digit
+    decimal_each (λ n s. leading digit s ≡ length s) one_digit
     (λ n s h e. leading_join digit s (digit_text (n % 10) ∷ []) e (one_digit (n % 10) (omega arith)))
 
 -- and no byte below the digits stands in it, such as a blank or a newline
@@ -172,7 +172,7 @@ decimal_without c n h =
 
 first_digit : (n : ℕ) → (0 < length (decimal_text n)) × (0 < n → eqb (get_or (decimal_text n) 0 0) 48 ≡ false)
 first_digit =
-    decimal-each (λ n s. (0 < length s) × (0 < n → eqb (get_or s 0 0) 48 ≡ false)) (λ n h. (omega arith, λ p. ne_eqb (48 + n) 48 (λ q. omega arith)))
+    decimal_each (λ n s. (0 < length s) × (0 < n → eqb (get_or s 0 0) 48 ≡ false)) (λ n h. (omega arith, λ p. ne_eqb (48 + n) 48 (λ q. omega arith)))
     (λ n s h e.
     let d = digit_text (n % 10) ∷ [] in
     (omega (arith, length-append s d), λ p. ap (λ (b : ℕ). eqb b 48) (get_or-append s d 0 0 e.0) ∙ e.1 (omega arith)))

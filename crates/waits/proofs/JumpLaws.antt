@@ -1,6 +1,6 @@
 -- Laws of a jump: ticks in which only counts move leave what `jumped` says, change no line, and are passed over by a wait.
 -- Assumes nothing.
-use Prim.Native.Nat.{ℕ, zero, suc, ◌+◌, ◌-◌, ◌*◌, ◌/◌, ◌%◌, ◌<◌, ◌≤◌}
+use Prim.Native.Nat.{ℕ, suc, ◌+◌, ◌-◌, ◌*◌, ◌/◌, ◌%◌, ◌<◌, ◌≤◌}
 use mathlib.Core.Path.{◌≡◌, refl, sym, ap, ◌∙◌}
 use mathlib.Core.Bool.{Bool, true, false, ◌&&◌}
 use mathlib.Core.Logic.{◌⊎◌, inl, inr, ⊎_elim}
@@ -16,8 +16,7 @@ use Rattle.base.proofs.Tests.{by_cases, pick_case, true_false}
 use Rattle.base.proofs.WaitLaws.{Jumps, wait_jump}
 use Rattle.events.specs.declared.Events.{Events}
 use Rattle.events.specs.declared.Inputs.{Inputs}
-use Rattle.events.specs.Control.{window_ticks, pulls_irq}
-use Rattle.events.specs.Tick.{window_runs, debounce_runs, events_tick}
+use Rattle.events.specs.Tick.{events_tick}
 use Rattle.events.specs.Jump.{events_quiet, events_jumped}
 use Rattle.events.proofs.JumpLaws as room
 use Rattle.record.specs.declared.Device.{Device}

@@ -2,7 +2,6 @@
 -- Assumes nothing.
 use Rattle.acts.proofs.AcceptedLaws.{accepted_byte, accepted_end, accepted_cut, accepted_set, few_bits, suits}
 use native.Mathlib.Omega.{arith}
-use borrow.Author.Rules.{rules}
 use Rattle.acts.proofs.accepted_act.Goals as goal
 
 pub next_reply-reply-requires : goal.next_reply-reply-requires

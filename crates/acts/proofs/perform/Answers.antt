@@ -1,7 +1,6 @@
 -- `acts::perform`: a number of the setup answers and changes nothing; else the act is performed on what is in range.
 -- Assumes nothing.
 use mathlib.Core.Path.{sym, ap, ◌∙◌}
-use borrow.Author.Rules.{rules}
 use Rattle.refusals.proofs.TableLaws.{by_setup}
 use Rattle.record.specs.World.{world}
 use Rattle.acts.specs.declared.Answer.{Answer}

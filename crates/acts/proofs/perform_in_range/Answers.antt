@@ -1,7 +1,6 @@
 -- `acts::perform_in_range`: a number of the act answers and changes nothing; else the act is performed.
 -- Assumes nothing.
 use mathlib.Core.Path.{sym, ap, ◌∙◌}
-use borrow.Author.Rules.{rules}
 use Rattle.refusals.proofs.TableLaws.{by_act}
 use Rattle.record.specs.World.{world}
 use Rattle.acts.specs.declared.Answer.{Answer}

@@ -3,7 +3,6 @@
 use mathlib.Core.Path.{sym}
 use Rattle.record.specs.World.{world}
 use Rattle.ticks.proofs.WaitLaws.{wait_settled}
-use borrow.Author.Rules.{rules}
 use Rattle.acts.proofs.wait_act.Goals as goal
 
 pub returns-then-was-runs : goal.returns-then-was-runs

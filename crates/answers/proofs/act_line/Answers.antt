@@ -6,7 +6,6 @@ use mathlib.Core.List.{List, ◌++◌}
 use Prim.Native.Nat.{ℕ, ◌≤◌}
 use lib.ListN.{length, take, drop}
 use lib.Seq.{length-take-le}
-use borrow.Author.Rules.{rules}
 use Rattle.base.proofs.Tests.{yes}
 use Rattle.record.specs.Part.{size_of}
 use Rattle.record.proofs.PartLaws.{size_most}

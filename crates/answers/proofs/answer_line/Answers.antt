@@ -1,7 +1,6 @@
 -- `answers::answer_line`: by what the line asks for.
 -- Assumes nothing.
 use mathlib.Core.Path.{sym, ◌∙◌}
-use borrow.Author.Rules.{rules}
 use Rattle.text.specs.Buffer.{buffer}
 use Rattle.lines.specs.declared.Request.TheVariants.{PartLine, ActLine, Bad}
 use Rattle.answers.specs.Answer.{held_by}

@@ -1,6 +1,5 @@
 -- `answers::is_ready`: no part, or no row of the setup, with memories of the part's lengths.
 -- Assumes nothing.
-use borrow.Author.Rules.{rules}
 use Rattle.answers.specs.Answer.{ready}
 use Rattle.answers.proofs.is_ready.Goals as goal
 

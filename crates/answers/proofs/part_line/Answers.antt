@@ -9,7 +9,6 @@ use lib.Dec.{eqb}
 use lib.ListN.{length, replicate, drop}
 use lib.Seq.{length-take-le}
 use borrow.Author.Tests.{not-true, not-false}
-use borrow.Author.Rules.{rules}
 use Rattle.base.proofs.Tests.{yes, no}
 use Rattle.record.specs.Part.{is_part, size_of}
 use Rattle.record.proofs.PartLaws.{size_most}

@@ -1,7 +1,6 @@
 -- `answers::refused_line`: the line of a number and what it shows, with everything as it was.
 -- Assumes nothing.
 use mathlib.Core.Path.{◌∙◌}
-use borrow.Author.Rules.{rules}
 use Rattle.text.specs.Buffer.{buffer}
 use Rattle.answers.specs.Answer.{held_by}
 use Rattle.answers.proofs.AnswerLaws.{refused_shown}

@@ -1,6 +1,5 @@
 -- `arrays::clock_bad`: its tests (`clock_by`).
 -- Assumes nothing.
-use borrow.Author.Rules.{rules}
 use Rattle.arrays.proofs.TestLaws.{clock_by}
 use Rattle.arrays.proofs.clock_bad.Goals as goal
 

@@ -1,9 +1,8 @@
 -- `arrays::copy_from`: so far the bytes passed are there.
 -- Assumes nothing.
 use native.Mathlib.Omega.{arith}
-use mathlib.Core.Path.{◌≡◌, refl}
-use Prim.Native.Nat.{◌-◌, ◌≤◌}
-use lib.ListN.{length, take, drop, length-set}
+use mathlib.Core.Path.{refl}
+use lib.ListN.{length-set}
 use Rattle.numbers.proofs.ChipLaws.{take_more, taken_all}
 use Rattle.arrays.proofs.copy_from.Goals as goal
 

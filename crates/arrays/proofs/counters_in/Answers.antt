@@ -1,6 +1,5 @@
 -- `arrays::counters_in`: each count fits its field.
 -- Assumes nothing.
-use borrow.Author.Rules.{rules}
 use Rattle.arrays.proofs.ArrayLaws.{divider_fits, startup_fits, watchdog_fits, delay_fits, pulse_fits, counters_by}
 use mathlib.Core.Path.{subst, sym}
 use Prim.Native.Nat.{ℕ, ◌<◌}

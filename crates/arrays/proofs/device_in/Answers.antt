@@ -1,6 +1,5 @@
 -- `arrays::device_in`: by its calls (`device_by`).
 -- Assumes nothing.
-use borrow.Author.Rules.{rules}
 use Rattle.arrays.proofs.ArrayLaws.{device_by}
 use Rattle.arrays.proofs.device_in.Goals as goal
 

@@ -1,6 +1,5 @@
 -- `arrays::events_bad`: its tests (`events_by`).
 -- Assumes nothing.
-use borrow.Author.Rules.{rules}
 use Rattle.arrays.proofs.TestLaws.{events_by}
 use Rattle.arrays.proofs.events_bad.Goals as goal
 

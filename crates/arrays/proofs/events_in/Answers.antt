@@ -1,6 +1,5 @@
 -- `arrays::events_in`: each count fits its field.
 -- Assumes nothing.
-use borrow.Author.Rules.{rules}
 use mathlib.Core.Path.{subst, sym}
 use Prim.Native.Nat.{ℕ, ◌<◌}
 use Rattle.arrays.proofs.ArrayLaws.{since_fits, debounce_fits, inputs_by}

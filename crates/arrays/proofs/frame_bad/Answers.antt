@@ -1,6 +1,5 @@
 -- `arrays::frame_bad`: its tests (`frame_by`).
 -- Assumes nothing.
-use borrow.Author.Rules.{rules}
 use Rattle.arrays.proofs.TestLaws.{frame_by}
 use Rattle.arrays.proofs.frame_bad.Goals as goal
 

@@ -1,6 +1,5 @@
 -- `arrays::is_state`: by its length, else its tests (`state_told`).
 -- Assumes nothing.
-use borrow.Author.Rules.{rules}
 use mathlib.Core.Path.{◌∙◌}
 use mathlib.Core.Bool.{not, ◌||◌}
 use Rattle.arrays.proofs.TestLaws.{state_told, state_short}

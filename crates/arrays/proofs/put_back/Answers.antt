@@ -1,6 +1,5 @@
 -- `arrays::put_back`: one piece after the other.
 -- Assumes nothing.
-use borrow.Author.Rules.{rules}
 use mathlib.Core.List.{◌++◌}
 use Rattle.text.specs.Buffer.{buffer}
 use Rattle.text.proofs.BufferLaws.{put_then, room_then, room_before}

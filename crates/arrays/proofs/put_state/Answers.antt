@@ -1,6 +1,5 @@
 -- `arrays::put_state`: its front, then the rest (`state_put`).
 -- Assumes nothing.
-use borrow.Author.Rules.{rules}
 use Rattle.refusals.proofs.TypeLaws.{record_sized}
 use Rattle.arrays.proofs.ArrayLaws.{front_fits, back_fits, state_put}
 use Rattle.arrays.proofs.put_state.Goals as goal

@@ -1,6 +1,5 @@
 -- `arrays::state_refusal`: by its calls.
 -- Assumes nothing.
-use borrow.Author.Rules.{rules}
 use mathlib.Core.Path.{◌∙◌}
 use Rattle.arrays.specs.Arrays.{arrays_refusal}
 use Rattle.arrays.proofs.state_refusal.Goals as goal

@@ -1,14 +1,10 @@
 -- `batch::perform_all`: before each turn, what is left of the acts gives the same answer as all of them from the start.
 -- Assumes nothing.
-use Prim.Native.Nat.{◌≤◌, ◌-◌, min}
-use mathlib.Core.Path.{◌≡◌, refl}
+use mathlib.Core.Path.{refl}
 use native.Mathlib.Omega.{arith}
-use borrow.Author.Rules.{rules}
-use lib.ListN.{length, length-set}
+use lib.ListN.{length-set}
 use Rattle.record.specs.World.{world}
-use Rattle.refusals.specs.Refusal.{setup_refusal}
-use Rattle.run.specs.Run.{inputs_in}
-use Rattle.run.proofs.TurnLaws.{Left, inputs_from, left_all, left_turn, left_none, inputs_none, inputs_end, suits_turn}
+use Rattle.run.proofs.TurnLaws.{left_all, left_turn, left_none, inputs_none, inputs_end, suits_turn}
 use Rattle.batch.proofs.perform_all.Goals as goal
 
 pub loop-i-init : goal.loop-i-init

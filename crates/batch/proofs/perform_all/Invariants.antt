@@ -1,14 +1,12 @@
 -- `batch::perform_all`: before each turn, what is left of the acts gives the same answer as all of them from the start.
 -- Assumes nothing.
 use Prim.Native.Nat.{◌≤◌, ◌-◌, min}
-use mathlib.Core.Path.{◌≡◌, refl}
-use native.Mathlib.Omega.{arith}
-use borrow.Author.Rules.{rules}
-use lib.ListN.{length, length-set}
+use mathlib.Core.Path.{◌≡◌}
+use lib.ListN.{length}
 use Rattle.record.specs.World.{world}
 use Rattle.refusals.specs.Refusal.{setup_refusal}
 use Rattle.run.specs.Run.{inputs_in}
-use Rattle.run.proofs.TurnLaws.{Left, inputs_from, left_all, left_turn, left_none, inputs_none, inputs_end, suits_turn}
+use Rattle.run.proofs.TurnLaws.{Left, inputs_from}
 use Rattle.batch.proofs.perform_all.Given as goal
 
 abbrev pub invariant-loop-i : goal.invariant-loop-i

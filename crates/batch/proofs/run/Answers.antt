@@ -1,7 +1,6 @@
 -- `batch::run`: refused, nothing changed; else the acts are performed from fresh, and demand 3 follows.
 -- Assumes nothing.
 use mathlib.Core.Path.{refl, sym, ◌∙◌}
-use borrow.Author.Rules.{rules}
 use Rattle.run.specs.Run.{refuses_run}
 use Rattle.run.proofs.TurnLaws.{run_refused, run_done, suits_start}
 use Rattle.batch.proofs.run.Goals as goal

@@ -1,7 +1,6 @@
 -- `batch::run_from`: refused, nothing changed; else the acts are performed from the record and the memories as they are, and demand 3 follows.
 -- Assumes nothing.
 use mathlib.Core.Path.{refl, sym, ◌∙◌}
-use borrow.Author.Rules.{rules}
 use Rattle.refusals.proofs.TypeLaws.{record_sized}
 use Rattle.run.proofs.TurnLaws.{from_refused, from_done}
 use Rattle.batch.proofs.run_from.Goals as goal

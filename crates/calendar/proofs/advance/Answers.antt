@@ -1,7 +1,6 @@
 -- `advance` answers `advanced`: the promises of its calls, from the last to the first.
 -- Assumes nothing.
 use Rattle.calendar.specs.Time.{advanced}
-use borrow.Author.Rules.{rules}
 use Rattle.calendar.proofs.advance.Goals as goal
 
 pub returns : goal.returns

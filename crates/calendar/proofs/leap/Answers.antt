@@ -1,7 +1,6 @@
 -- `leap` answers `leap_year`, by the promise of `valid_year`.
 -- Assumes nothing.
 use Rattle.calendar.specs.Date.{leap_year}
-use borrow.Author.Rules.{rules}
 use Rattle.calendar.proofs.leap.Goals as goal
 
 pub returns : goal.returns

@@ -8,7 +8,6 @@ use Rattle.base.specs.Words.{every}
 use Rattle.calendar.specs.Field.{valid_field}
 use Rattle.calendar.specs.Date.{month_length}
 use Rattle.calendar.proofs.LengthLaws.{leap_february, in_table, past_months}
-use borrow.Author.Rules.{rules}
 use Rattle.calendar.proofs.month_length.Goals as goal
 
 pub returns-then-leap-month : goal.returns-then-leap-month

@@ -1,7 +1,6 @@
 -- `next_date` answers `next_date`: the promises of its calls, from the last to the first.
 -- Assumes nothing.
 use Rattle.calendar.specs.Date.{next_date}
-use borrow.Author.Rules.{rules}
 use Rattle.calendar.proofs.next_date.Goals as goal
 
 pub returns : goal.returns

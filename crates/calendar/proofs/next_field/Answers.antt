@@ -6,7 +6,6 @@ use mathlib.Core.Bool.{Bool, true, ◌&&◌}
 use Prim.Native.Nat.{ℕ}
 use native.Mathlib.Omega.{arith}
 use lib.Dec.{ltb}
-use borrow.Author.Rules.{rules}
 use Rattle.base.proofs.Tests.{both_left}
 use Rattle.calendar.specs.Field.{valid_field, next_field}
 use Rattle.calendar.proofs.FieldLaws.{Valid, valid_is}

@@ -2,7 +2,6 @@
 -- Assumes nothing.
 use borrow.Author.Tests.{eq-eqb, ne_eqb}
 use Rattle.calendar.specs.Hours.{next_hours}
-use borrow.Author.Rules.{rules}
 use Rattle.calendar.proofs.next_hours.Goals as goal
 
 pub returns-then-b-eq1 : goal.returns-then-b-eq1

@@ -1,6 +1,5 @@
 -- `next_seconds` answers `next_seconds`: the promise of `next_field`, put beside the control bit.
 -- Assumes nothing.
-use borrow.Author.Rules.{rules}
 use Rattle.calendar.proofs.next_seconds.Goals as goal
 
 pub returns : goal.returns

@@ -8,7 +8,6 @@ use lib.Dec.{ltb}
 use native.Mathlib.Omega.{arith}
 use borrow.Author.Tests.{ltb-true}
 use Rattle.base.proofs.Tests.{both_right}
-use borrow.Author.Rules.{rules}
 use Rattle.calendar.proofs.next_twelve.Goals as goal
 
 another_hour : (valid : Bool) (h : ℕ) → (valid && ltb h 23) ≡ true → h + 1 < 24

@@ -1,7 +1,6 @@
 -- `on_day` answers `on_day`: by the carry, from the promises of the date's functions.
 -- Assumes nothing.
 use Rattle.calendar.specs.Time.{on_day}
-use borrow.Author.Rules.{rules}
 use Rattle.calendar.proofs.on_day.Goals as goal
 
 pub returns-then-carry : goal.returns-then-carry

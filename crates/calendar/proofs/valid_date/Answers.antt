@@ -1,6 +1,5 @@
 -- `valid_date` answers `valid_date`: the promises of its calls, from the last to the first.
 -- Assumes nothing.
-use borrow.Author.Rules.{rules}
 use Rattle.calendar.proofs.valid_date.Goals as goal
 
 pub returns : goal.returns

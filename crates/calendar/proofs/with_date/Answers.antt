@@ -2,7 +2,6 @@
 -- Assumes nothing.
 use mathlib.Core.Path.{refl}
 use Rattle.calendar.specs.Time.{with_date}
-use borrow.Author.Rules.{rules}
 use Rattle.calendar.proofs.with_date.Goals as goal
 
 pub returns : goal.returns

@@ -1,16 +1,15 @@
 -- `calls::mcp795_act`: by the case that it is in.
 -- Assumes nothing.
-use borrow.Author.Rules.{rules}
 use native.Mathlib.Omega.{arith}
 use lib.ListN.{length}
 use Rattle.arrays.specs.Arrays.{arrays}
-use Rattle.calls.proofs.CallLaws.{state_long, state_there, setup_there, act-refused, act-none, act-done}
+use Rattle.calls.proofs.CallLaws.{state_long, state_there, setup_there, act_refused, act_none, act_done}
 use Rattle.calls.proofs.mcp795_act.Goals as goal
 
 pub returns-then-refused-ne0 : goal.returns-then-refused-ne0
 returns-then-refused-ne0 c =
     let a = c.args in
-    act-refused (arrays a.state.now a.eeprom.now a.id.now) _ c.state_refusal-refused.ensures a.act a.number c.if-refused-ne0.true
+    act_refused (arrays a.state.now a.eeprom.now a.id.now) _ c.state_refusal-refused.ensures a.act a.number c.if-refused-ne0.true
 
 pub device_in-device-requires : goal.device_in-device-requires
 device_in-device-requires c =
@@ -25,7 +24,7 @@ device_in-device-requires c =
 pub returns-then-act-gt7 : goal.returns-then-act-gt7
 returns-then-act-gt7 c =
     let a = c.args in
-    act-none (arrays a.state.now a.eeprom.now a.id.now) _ c.state_refusal-refused.ensures a.act a.number c.if-refused-ne0.false _ _ (omega arith) c.put_answer.ensures c.device_in-device.ensures
+    act_none (arrays a.state.now a.eeprom.now a.id.now) _ c.state_refusal-refused.ensures a.act a.number c.if-refused-ne0.false _ _ (omega arith) c.put_answer.ensures c.device_in-device.ensures
 
 pub perform_in_range-a-requires : goal.perform_in_range-a-requires
 perform_in_range-a-requires c =
@@ -40,4 +39,4 @@ put_state-requires c =
 pub returns : goal.returns
 returns c =
     let a = c.args in
-    act-done (arrays a.state.now a.eeprom.now a.id.now) _ c.state_refusal-refused.ensures a.act a.number c.if-refused-ne0.false _ _ _ _ _ _ _ _ c.part_of-part.ensures c.if-act-gt7.false c.act_of-code.ensures c.device_in-device.ensures c.perform_in_range-a.ensures c.put_state.ensures c.put_answer-2.ensures
+    act_done (arrays a.state.now a.eeprom.now a.id.now) _ c.state_refusal-refused.ensures a.act a.number c.if-refused-ne0.false _ _ _ _ _ _ _ _ c.part_of-part.ensures c.if-act-gt7.false c.act_of-code.ensures c.device_in-device.ensures c.perform_in_range-a.ensures c.put_state.ensures c.put_answer-2.ensures

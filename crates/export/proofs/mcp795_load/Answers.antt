@@ -1,13 +1,12 @@
 -- `export::mcp795_load`: by the case that it is in.
 -- Assumes nothing.
-use borrow.Author.Rules.{rules}
 use mathlib.Core.Path.{◌≡◌, ap, ◌∙◌}
 use Rattle.record.specs.declared.Device.{Device}
 use Rattle.record.specs.Fresh.{fresh}
 use Rattle.record.specs.World.{world}
 use Rattle.form.specs.Save.{loading, loads}
 use Rattle.arrays.specs.Arrays.{arrays}
-use Rattle.calls.proofs.CallLaws.{load_short, load-refused, load-done}
+use Rattle.calls.proofs.CallLaws.{load_short, load_refused, load_done}
 use Rattle.export.proofs.mcp795_load.Goals as goal
 
 pub returns-then-state-ne-STATE : goal.returns-then-state-ne-STATE
@@ -21,7 +20,7 @@ returns-then-l-ne0 c =
     let d = c.load-l in
     let l = loading d.result.number d.result.line d.result.part (world d.result.device d.new.eeprom d.new.id) in
     let e : l ≡ loads a.text.now 0 (world fresh a.eeprom.now a.id.now) = d.ensures ∙ ap (λ (v : Device). loads a.text.now 0 (world v a.eeprom.now a.id.now)) c.fresh_device-fresh.ensures in
-    load-refused a.text.now (arrays a.state.now a.eeprom.now a.id.now) c.if-state-ne-STATE.false l e c.if-l-ne0.true
+    load_refused a.text.now (arrays a.state.now a.eeprom.now a.id.now) c.if-state-ne-STATE.false l e c.if-l-ne0.true
 
 pub returns : goal.returns
 returns c =
@@ -29,4 +28,4 @@ returns c =
     let d = c.load-l in
     let l = loading d.result.number d.result.line d.result.part (world d.result.device d.new.eeprom d.new.id) in
     let e : l ≡ loads a.text.now 0 (world fresh a.eeprom.now a.id.now) = d.ensures ∙ ap (λ (v : Device). loads a.text.now 0 (world v a.eeprom.now a.id.now)) c.fresh_device-fresh.ensures in
-    load-done a.text.now (arrays a.state.now a.eeprom.now a.id.now) c.if-state-ne-STATE.false l e _ c.if-l-ne0.false c.put_state.ensures
+    load_done a.text.now (arrays a.state.now a.eeprom.now a.id.now) c.if-state-ne-STATE.false l e _ c.if-l-ne0.false c.put_state.ensures

@@ -1,10 +1,9 @@
 -- `export::mcp795_save`: by the case that it is in.
 -- Assumes nothing.
-use borrow.Author.Rules.{rules}
 use lib.ListN.{length}
 use Rattle.arrays.specs.Arrays.{arrays}
 use Rattle.saved.specs.Answer.{saving_of}
-use Rattle.calls.proofs.CallLaws.{state_long, state_there, save_refused, save-done}
+use Rattle.calls.proofs.CallLaws.{state_long, state_there, save_refused, save_done}
 use Rattle.export.proofs.mcp795_save.Goals as goal
 
 pub returns-then-refused-ne0 : goal.returns-then-refused-ne0
@@ -25,4 +24,4 @@ device_in-device-requires c =
 pub returns : goal.returns
 returns c =
     let a = c.args in
-    save-done (arrays a.state.now a.eeprom.now a.id.now) _ c.state_refusal-refused.ensures a.text.now c.if-refused-ne0.false (saving_of c.save-s.result c.save-s.new.into) _ _ c.part_of-part.ensures c.device_in-device.ensures c.save-s.ensures
+    save_done (arrays a.state.now a.eeprom.now a.id.now) _ c.state_refusal-refused.ensures a.text.now c.if-refused-ne0.false (saving_of c.save-s.result c.save-s.new.into) _ _ c.part_of-part.ensures c.device_in-device.ensures c.save-s.ensures

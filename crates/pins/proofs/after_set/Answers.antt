@@ -1,6 +1,5 @@
 -- `pins::after_set`: by the pin; of EVHS by the test of what zeroes the watchdog's count.
 -- Assumes nothing.
-use borrow.Author.Rules.{rules}
 use Rattle.pins.specs.Set.{after_set}
 use Rattle.pins.proofs.after_set.Goals as goal
 

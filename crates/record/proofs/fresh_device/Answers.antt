@@ -1,6 +1,5 @@
 -- `record::fresh_device`: from the promises of `fresh_regs` and `fresh_counters`.
 -- Assumes nothing.
-use borrow.Author.Rules.{rules}
 use Rattle.record.specs.Fresh.{fresh}
 use Rattle.record.proofs.fresh_device.Goals as goal
 

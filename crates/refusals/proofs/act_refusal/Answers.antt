@@ -1,7 +1,6 @@
 -- `refusals::act_refusal`: each test is a call's promise, and `first_refusal` picks in the table's order.
 -- Assumes nothing.
 use Rattle.refusals.specs.Refusal.{act_refusal}
-use borrow.Author.Rules.{rules}
 use Rattle.refusals.proofs.act_refusal.Goals as goal
 
 pub returns : goal.returns

@@ -1,7 +1,6 @@
 -- `refusals::setup_refusal`: each test is a call's promise, and `first_refusal` picks in the table's order.
 -- Assumes nothing.
 use Rattle.refusals.specs.Refusal.{setup_refusal}
-use borrow.Author.Rules.{rules}
 use Rattle.refusals.proofs.setup_refusal.Goals as goal
 
 pub returns : goal.returns

@@ -1,6 +1,5 @@
 -- `replies::instruction_reply`: by the code's test: STATUS, or SO off.
 -- Assumes nothing.
-use borrow.Author.Rules.{rules}
 use Rattle.replies.proofs.instruction_reply.Goals as goal
 
 pub returns-then-reads : goal.returns-then-reads

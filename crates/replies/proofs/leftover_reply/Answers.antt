@@ -1,7 +1,6 @@
 -- `replies::leftover_reply`: the first bits of what the next whole exchange answers.
 -- Assumes nothing.
 use Rattle.replies.specs.Reply.{leftover_reply}
-use borrow.Author.Rules.{rules}
 use Rattle.replies.proofs.leftover_reply.Goals as goal
 
 pub returns : goal.returns

@@ -1,7 +1,6 @@
 -- `replies::next_reply`: by the stage; the pointer that it asks for is its stage's.
 -- Assumes nothing.
 use Rattle.replies.specs.Reply.{next_reply}
-use borrow.Author.Rules.{rules}
 use Rattle.replies.proofs.next_reply.Goals as goal
 
 pub reading_reply-requires : goal.reading_reply-requires

@@ -3,7 +3,6 @@
 use native.Mathlib.Omega.{arith}
 use Rattle.replies.specs.Reply.{status_byte}
 use Rattle.replies.proofs.ReplyLaws.{status_fits}
-use borrow.Author.Rules.{rules}
 use Rattle.replies.proofs.status.Goals as goal
 
 pub overflow_mul-result : goal.overflow_mul-result

@@ -1,6 +1,5 @@
 -- `saved::load`: by the case that it is in; what was read is the form's answer (`text_reads`).
 -- Assumes nothing.
-use borrow.Author.Rules.{rules}
 use native.Mathlib.Omega.{arith}
 use mathlib.Core.Path.{refl, sym, ap, subst, ◌∙◌}
 use mathlib.Core.List.{List}
@@ -14,7 +13,7 @@ use Rattle.form.specs.Facts.{BytesFrom, RecordFacts, EventFacts}
 use Rattle.form.specs.Save.{loading}
 use Rattle.numbers.proofs.ChipLaws.{reach}
 use Rattle.saved.specs.Place.{filled}
-use Rattle.saved.proofs.AnswerLaws.{load_bad, load-misfit, load-done, record_read, events-read, eeprom-there, id-there}
+use Rattle.saved.proofs.AnswerLaws.{load_bad, load_misfit, load_done, record_read, events_read, eeprom_there, id_there}
 use Rattle.saved.proofs.load.Goals as goal
 
 past : {n : ℕ} → 123 ≤ n → 0 < n
@@ -55,7 +54,7 @@ returns-then-wrong_length c =
     let p = r.result.place in
     let t = r.ensures in
     let f = c.first-list.ensures in
-    load-misfit x a.part w r.new.numbers p.at p.lines r.result.count p.stopped t
+    load_misfit x a.part w r.new.numbers p.at p.lines r.result.count p.stopped t
     c.if-place-text.false
     (ap (λ (l : List ℕ). wrong_length (get_or l 0 0) (length a.eeprom.now) (length a.id.now)) (sym f) ∙ sym c.wrong_length.ensures ∙ c.if-wrong_length.true)
 
@@ -71,8 +70,8 @@ take_bytes-requires c =
     let e = ap (λ (l : List ℕ). wrong_length (get_or l 0 0) (length a.eeprom.now) (length a.id.now)) (sym f) ∙ sym
     c.wrong_length.ensures ∙ c.if-wrong_length.false in
     let there =
-        subst (λ (l : List ℕ). (123 + length a.eeprom.now ≤ length l) × BytesFrom l 123 (length a.eeprom.now)) (sym f)
-        (eeprom-there x a.part w r.new.numbers p.at p.lines r.result.count p.stopped t c.if-place-text.false e) in
+    subst (λ (l : List ℕ). (123 + length a.eeprom.now ≤ length l) × BytesFrom l 123 (length a.eeprom.now)) (sym f)
+    (eeprom_there x a.part w r.new.numbers p.at p.lines r.result.count p.stopped t c.if-place-text.false e) in
     record { into_in_bounds = there.0; bytes_from = there.1 }
 
 pub take_bytes-requires-2 : goal.take_bytes-requires-2
@@ -88,10 +87,10 @@ take_bytes-requires-2 c =
     c.wrong_length.ensures ∙ c.if-wrong_length.false in
     let k = c.take_bytes.auto.into in
     let there =
-        subst
-        (λ (l : List ℕ). (123 + length c.take_bytes.new.into + length a.id.now ≤ length l) × BytesFrom l (123 + length c.take_bytes.new.into) (length a.id.now))
-        (sym f)
-        (id-there x a.part w r.new.numbers p.at p.lines r.result.count p.stopped t c.if-place-text.false e _ k) in
+    subst
+    (λ (l : List ℕ). (123 + length c.take_bytes.new.into + length a.id.now ≤ length l) × BytesFrom l (123 + length c.take_bytes.new.into) (length a.id.now))
+    (sym f)
+    (id_there x a.part w r.new.numbers p.at p.lines r.result.count p.stopped t c.if-place-text.false e _ k) in
     record { into_in_bounds = there.0; bytes_from = there.1 }
 
 pub device_of-loaded-requires : goal.device_of-loaded-requires
@@ -104,7 +103,7 @@ device_of-loaded-requires c =
     let t = r.ensures in
     let f = c.first-list.ensures in
     let h = c.if-place-text.false in
-    let e = events-read x a.part w r.new.numbers p.at p.lines r.result.count p.stopped t h _ (c.events_from-from.ensures.value ∙ ap chip_events f) in
+    let e = events_read x a.part w r.new.numbers p.at p.lines r.result.count p.stopped t h _ (c.events_from-from.ensures.value ∙ ap chip_events f) in
     record {
       record_facts = subst RecordFacts (sym f) (record_read x a.part w r.new.numbers p.at p.lines r.result.count p.stopped t h);
       event_facts = subst (EventFacts c.events_from-from.result) (sym f) e.0;
@@ -125,7 +124,7 @@ returns c =
     let k = c.take_bytes.auto.into in
     ap
     (λ (l : List ℕ). loading 0 0 (get_or l 0 0) (world c.device_of-loaded.result c.take_bytes.new.into c.take_bytes-2.new.into))
-    f ∙ load-done x a.part w r.new.numbers p.at p.lines r.result.count p.stopped t
+    f ∙ load_done x a.part w r.new.numbers p.at p.lines r.result.count p.stopped t
     c.if-place-text.false e _ _ _ _ k
     (c.take_bytes.ensures ∙ ap (λ (l : List ℕ). take (length a.eeprom.now) (drop 123 l)) f)
     (c.take_bytes-2.ensures ∙ ap (λ (l : List ℕ). take (length a.id.now) (drop (123 + length c.take_bytes.new.into) l)) f)

@@ -1,6 +1,5 @@
 -- `saved::save`: by the case that it is in; what is put is the text of the chip's numbers.
 -- Assumes nothing.
-use borrow.Author.Rules.{rules}
 use native.Mathlib.Omega.{arith}
 use mathlib.Core.Path.{◌≡◌, sym, ap, subst, ◌∙◌}
 use mathlib.Core.List.{List}
@@ -15,14 +14,14 @@ use Rattle.form.specs.Chip.{numbers_of, IsChip, form_text}
 use Rattle.form.proofs.ChipLaws.{sound_numbers}
 use Rattle.saved.proofs.KeyLaws.{put_first}
 use Rattle.saved.proofs.SizeLaws.{text_long}
-use Rattle.saved.proofs.AnswerLaws.{held_sound, numbers_few, save_refused, save-short, save-done, put_over}
+use Rattle.saved.proofs.AnswerLaws.{held_sound, numbers_few, save_refused, save_short, save_done, put_over}
 use Rattle.saved.proofs.save.Goals as goal
 
 put_as : {b : Buffer} (o : Buffer) (x : List ℕ) {y : List ℕ} → b ≡ append o x → x ≡ y → b ≡ append o y
 put_as o x e f = e ∙ ap (append o) f
 
-text-length : {b : Buffer} (l x : List ℕ) {y : List ℕ} → b ≡ append (buffer l 0) x → x ≡ y → b.at ≡ length y
-text-length l x e f = put_place (buffer l 0) x e ∙ zero-add (length x) ∙ ap length f
+text_length : {b : Buffer} (l x : List ℕ) {y : List ℕ} → b ≡ append (buffer l 0) x → x ≡ y → b.at ≡ length y
+text_length l x e f = put_place (buffer l 0) x e ∙ zero-add (length x) ∙ ap length f
 
 fits : {n m k : ℕ} → n ≡ m → n ≤ k → m ≤ k
 fits e h = omega (arith, e, h)
@@ -89,8 +88,8 @@ returns-then-into-length c =
     let l = c.first.ensures ∙ put_first _ _ all _ (begin k) n.ensures.result_after in
     let text = form_text all in
     let t = put_as _ _ c.put_rows-length.ensures (ap form_text l) in
-    let m = text-length _ _ c.put_rows-length.ensures (ap form_text l) in
-    save-short a.part w room z c.put_rows-length.result m c.if-into-length.true
+    let m = text_length _ _ c.put_rows-length.ensures (ap form_text l) in
+    save_short a.part w room z c.put_rows-length.result m c.if-into-length.true
 
 pub put-requires : goal.put-requires
 put-requires c =
@@ -113,7 +112,7 @@ put-requires c =
     let l = c.first.ensures ∙ put_first _ _ all _ (begin k) n.ensures.result_after in
     let text = form_text all in
     let t = put_as _ _ c.put_rows-length.ensures (ap form_text l) in
-    let m = text-length _ _ c.put_rows-length.ensures (ap form_text l) in
+    let m = text_length _ _ c.put_rows-length.ensures (ap form_text l) in
     let u = c.first-2.ensures ∙ put_first _ _ text _ (begin (text_long all g)) t in
     let f : length text ≤ length room = fits m c.if-into-length.false in
     subst (λ (x : List ℕ). 0 + length x ≤ length room) (sym u) (begin f)
@@ -141,8 +140,8 @@ returns c =
     n.ensures.result_after in
     let text = form_text all in
     let t = put_as _ _ c.put_rows-length.ensures (ap form_text l) in
-    let m = text-length _ _ c.put_rows-length.ensures (ap form_text l) in
+    let m = text_length _ _ c.put_rows-length.ensures (ap form_text l) in
     let u = c.first-2.ensures ∙ put_first _ _ text _ (begin (text_long all g)) t in
     let f : length text ≤ length room = fits m c.if-into-length.false in
     let o = put_over room _ text _ (begin f) (put_as _ _ c.put.ensures u) in
-    (λ i. record { number = 0; line = 0; length = m i; room = o i }) ∙ save-done a.part w room z f
+    (λ i. record { number = 0; line = 0; length = m i; room = o i }) ∙ save_done a.part w room z f

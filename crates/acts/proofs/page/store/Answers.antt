@@ -1,10 +1,8 @@
 -- `acts::page::store`: after k turns the offsets below k are done.
 -- Assumes nothing.
 use mathlib.Core.Path.{◌≡◌, refl, sym, ap, ◌∙◌}
-use Prim.Native.Nat.{◌-◌, ◌≤◌}
 use native.Mathlib.Omega.{arith}
 use lib.ListN.{length, length-set}
-use Rattle.base.specs.Words.{store_under}
 use Rattle.base.proofs.StoreLaws.{store_none}
 use Rattle.acts.proofs.PageLaws.{stored, skipped}
 use Rattle.acts.proofs.page.store.Goals as goal
@@ -17,7 +15,7 @@ pub loop-k-preserved : goal.loop-k-preserved
 loop-k-preserved c =
     let l = c.loop-k in
     elim c.if-set-k-eq1.branch [
-      then-set-k-eq1 w ↦ (omega arith, ap length w.page-is ∙ simp length-set l.invariant.1, stored _ _ _ _ _ _ l.invariant.2 w.if-set-k-eq1.true w.page-is)
+      | then-set-k-eq1 w ↦ (omega arith, ap length w.page-is ∙ simp length-set l.invariant.1, stored _ _ _ _ _ _ l.invariant.2 w.if-set-k-eq1.true w.page-is)
       | else-set-k-eq1 w ↦ (omega arith, ap length w.page-is ∙ l.invariant.1, skipped _ _ _ _ _ _ l.invariant.2 w.if-set-k-eq1.false w.page-is)
     ]
 

@@ -1,13 +1,9 @@
 -- `acts::page::store`: after k turns the offsets below k are done.
 -- Assumes nothing.
-use mathlib.Core.Logic.{⊎_elim}
-use mathlib.Core.Path.{◌≡◌, refl, sym, ap, ◌∙◌}
+use mathlib.Core.Path.{◌≡◌}
 use Prim.Native.Nat.{◌-◌, ◌≤◌}
-use native.Mathlib.Omega.{arith}
-use lib.ListN.{length, length-set}
+use lib.ListN.{length}
 use Rattle.base.specs.Words.{store_under}
-use Rattle.base.proofs.StoreLaws.{store_none}
-use Rattle.acts.proofs.PageLaws.{stored, skipped}
 use Rattle.acts.proofs.page.store.Given as goal
 
 abbrev pub invariant-loop-k : goal.invariant-loop-k

@@ -1,6 +1,5 @@
 -- Each target's page goes into its own memory, or into none.
 -- Assumes nothing.
-use borrow.Author.Rules.{rules}
 use Rattle.acts.proofs.PageLaws.{store_part}
 use Rattle.acts.proofs.page.store_target.Goals as goal
 

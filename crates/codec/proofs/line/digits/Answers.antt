@@ -1,6 +1,5 @@
 -- `codec::line::digits`: what is left after one blank and `arg=`.
 -- Assumes nothing.
-use borrow.Author.Rules.{rules}
 use Rattle.lines.specs.Line.{digits_text}
 use Rattle.codec.proofs.line.digits.Goals as goal
 

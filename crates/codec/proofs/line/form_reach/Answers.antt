@@ -4,7 +4,6 @@ use native.Mathlib.Omega.{arith}
 use mathlib.Core.Path.{◌≡◌, sym, ap, ◌∙◌}
 use mathlib.Core.List.{List}
 use Prim.Native.Nat.{ℕ, ◌+◌}
-use borrow.Author.Rules.{rules}
 use Rattle.text.specs.Bytes.{agreed, leading, digit}
 use Rattle.lines.specs.Line.{arg_text, after_name, digits_text}
 use Rattle.lines.proofs.LineLaws.{reach_op, reach_name, reach_arg, reach_digits, size_within, arg_within, run_within}

@@ -1,6 +1,5 @@
 -- `codec::line::in_form`: each test is one of the form.
 -- Assumes nothing.
-use borrow.Author.Rules.{rules}
 use Rattle.lines.specs.Line.{in_form}
 use Rattle.codec.proofs.line.in_form.Goals as goal
 

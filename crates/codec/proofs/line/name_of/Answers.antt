@@ -1,6 +1,5 @@
 -- `codec::line::name_of`: the first word of the list that the text is, one call for each.
 -- Assumes nothing.
-use borrow.Author.Rules.{rules}
 use Rattle.text.specs.Bytes.{chosen}
 use Rattle.lines.specs.Line.{name_of}
 use Rattle.codec.proofs.line.name_of.Goals as goal

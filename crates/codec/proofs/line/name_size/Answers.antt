@@ -1,6 +1,5 @@
 -- `codec::line::name_size`: the letters that lead what follows `op=`.
 -- Assumes nothing.
-use borrow.Author.Rules.{rules}
 use Rattle.lines.specs.Line.{name_size}
 use Rattle.codec.proofs.line.name_size.Goals as goal
 

@@ -3,7 +3,6 @@
 use native.Mathlib.Omega.{arith}
 use mathlib.Core.Path.{sym, ap, ◌∙◌}
 use Prim.Native.Nat.{◌+◌}
-use borrow.Author.Rules.{rules}
 use Rattle.base.proofs.Tests.{yes, no}
 use Rattle.text.specs.Decimal.{needless_zero}
 use Rattle.lines.specs.Line.{digit_limit, digit_column, number_column}

@@ -1,8 +1,6 @@
 -- `codec::print::put_field`: the word, and then z or a decimal.
 -- Assumes nothing.
 use native.Mathlib.Omega.{arith}
-use Prim.Native.Nat.{◌+◌, ◌≤◌}
-use lib.ListN.{length}
 use mir.Syntax.{w64}
 use mir.Val.{Fits}
 use borrow.Author.Rules.{rules}
@@ -10,7 +8,6 @@ use Rattle.text.specs.Buffer.{buffer}
 use Rattle.text.proofs.BufferLaws.{put_place}
 use Rattle.text.proofs.DecimalLaws.{decimal_places}
 use Rattle.lines.specs.declared.Out.TheVariants.{Value, Z}
-use Rattle.lines.specs.Print.{out_room}
 use Rattle.lines.proofs.PrintLaws.{field_put}
 use Rattle.codec.proofs.print.put_field.Goals as goal
 

@@ -1,7 +1,6 @@
 -- `detect::jump::events_jump`: both counts by their promises.
 -- Assumes nothing.
 use Rattle.events.specs.Jump.{events_jumped}
-use borrow.Author.Rules.{rules}
 use Rattle.detect.proofs.jump.events_jump.Goals as goal
 
 pub returns : goal.returns

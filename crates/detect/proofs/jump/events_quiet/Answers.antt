@@ -1,7 +1,6 @@
 -- `detect::jump::events_quiet`: the window's limit is the debounce's.
 -- Assumes nothing.
 use Rattle.events.specs.Jump.{events_quiet}
-use borrow.Author.Rules.{rules}
 use Rattle.detect.proofs.jump.events_quiet.Goals as goal
 
 pub returns : goal.returns

@@ -1,7 +1,6 @@
 -- `detect::pins::door_set`: by a fall, then by a rise that is counted: the definition's two tests.
 -- Assumes nothing.
 use Rattle.events.specs.Pins.{door_set}
-use borrow.Author.Rules.{rules}
 use Rattle.detect.proofs.pins.door_set.Goals as goal
 
 pub returns-then-falls : goal.returns-then-falls

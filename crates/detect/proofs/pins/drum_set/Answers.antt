@@ -1,7 +1,6 @@
 -- `detect::pins::drum_set`: by the test of two promises: `edge_counted` or not, on what `with_drum` gives.
 -- Assumes nothing.
 use Rattle.events.specs.Pins.{drum_set}
-use borrow.Author.Rules.{rules}
 use Rattle.detect.proofs.pins.drum_set.Goals as goal
 
 pub returns-then-rises-counts : goal.returns-then-rises-counts

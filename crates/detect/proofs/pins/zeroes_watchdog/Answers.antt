@@ -1,7 +1,6 @@
 -- `detect::pins::zeroes_watchdog`: the promises of `is_rising` and `is_falling`.
 -- Assumes nothing.
 use Rattle.events.specs.Pins.{zeroes_watchdog}
-use borrow.Author.Rules.{rules}
 use Rattle.detect.proofs.pins.zeroes_watchdog.Goals as goal
 
 pub returns : goal.returns

@@ -1,7 +1,6 @@
 -- `detect::range::debounce_out`: the tests are the definition's, beside the promise of `debounce_ticks`.
 -- Assumes nothing.
 use Rattle.events.specs.Range.{debounce_out}
-use borrow.Author.Rules.{rules}
 use Rattle.detect.proofs.range.debounce_out.Goals as goal
 
 pub returns : goal.returns

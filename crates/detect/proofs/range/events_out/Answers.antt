@@ -1,7 +1,6 @@
 -- `detect::range::events_out`: the two promises.
 -- Assumes nothing.
 use Rattle.events.specs.Range.{events_out}
-use borrow.Author.Rules.{rules}
 use Rattle.detect.proofs.range.events_out.Goals as goal
 
 pub returns : goal.returns

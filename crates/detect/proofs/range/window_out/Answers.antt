@@ -1,7 +1,6 @@
 -- `detect::range::window_out`: the tests are the definition's, beside the promise of `number`.
 -- Assumes nothing.
 use Rattle.events.specs.Range.{window_out}
-use borrow.Author.Rules.{rules}
 use Rattle.detect.proofs.range.window_out.Goals as goal
 
 pub returns : goal.returns

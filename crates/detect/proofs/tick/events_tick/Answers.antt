@@ -1,7 +1,6 @@
 -- `detect::tick::events_tick`: the window's promise, then the debounce's.
 -- Assumes nothing.
 use Rattle.events.specs.Tick.{events_tick}
-use borrow.Author.Rules.{rules}
 use Rattle.detect.proofs.tick.events_tick.Goals as goal
 
 pub returns : goal.returns

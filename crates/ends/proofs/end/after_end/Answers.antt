@@ -1,7 +1,6 @@
 -- `ends::end::after_end`: the definition's setters in the code's order, each with the promise of its call.
 -- Assumes nothing.
 use Rattle.ends.specs.End.{after_end}
-use borrow.Author.Rules.{rules}
 use Rattle.ends.proofs.end.after_end.Goals as goal
 
 pub returns : goal.returns

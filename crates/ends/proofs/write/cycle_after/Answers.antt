@@ -1,7 +1,6 @@
 -- `ends::write::cycle_after`: by the promise of `is_carried`; the target is that of `target_at`.
 -- Assumes nothing.
 use Rattle.ends.specs.Write.{cycle_after}
-use borrow.Author.Rules.{rules}
 use Rattle.ends.proofs.write.cycle_after.Goals as goal
 
 pub returns-then-starts : goal.returns-then-starts

@@ -1,7 +1,6 @@
 -- `ends::write::is_carried`: the five conditions of a write as values; three are promises.
 -- Assumes nothing.
 use Rattle.ends.specs.Write.{carried}
-use borrow.Author.Rules.{rules}
 use Rattle.ends.proofs.write.is_carried.Goals as goal
 
 pub returns : goal.returns

@@ -1,7 +1,6 @@
 -- `ends::write::wel_after`: by the tests of F19 in their order, each a call's promise.
 -- Assumes nothing.
 use Rattle.ends.specs.Write.{wel_after}
-use borrow.Author.Rules.{rules}
 use Rattle.ends.proofs.write.wel_after.Goals as goal
 
 pub returns-then-set : goal.returns-then-set

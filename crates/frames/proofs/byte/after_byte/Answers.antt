@@ -1,7 +1,6 @@
 -- `frames::byte::after_byte`: the definition's setters in the code's order, each with the promise of its call.
 -- Assumes nothing.
 use Rattle.frames.specs.Frame.{after_byte}
-use borrow.Author.Rules.{rules}
 use Rattle.frames.proofs.byte.after_byte.Goals as goal
 
 pub returns : goal.returns

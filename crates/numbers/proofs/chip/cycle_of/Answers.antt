@@ -1,6 +1,5 @@
 -- `numbers::chip::cycle_of`: each number fits (`fields`).
 -- Assumes nothing.
-use borrow.Author.Rules.{rules}
 use native.Mathlib.Omega.{arith}
 use Rattle.numbers.proofs.ChipLaws.{reach, fields}
 use Rattle.numbers.proofs.chip.cycle_of.Goals as goal

@@ -1,6 +1,5 @@
 -- `numbers::chip::device_of`: by its calls.
 -- Assumes nothing.
-use borrow.Author.Rules.{rules}
 use native.Mathlib.Omega.{arith}
 use Rattle.numbers.proofs.ChipLaws.{reach}
 use Rattle.numbers.proofs.chip.device_of.Goals as goal

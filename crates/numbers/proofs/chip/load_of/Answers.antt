@@ -1,6 +1,5 @@
 -- `numbers::chip::load_of`: the bytes of the load, and each number fits (`fields`).
 -- Assumes nothing.
-use borrow.Author.Rules.{rules}
 use native.Mathlib.Omega.{arith}
 use Rattle.numbers.proofs.ChipLaws.{reach, fields, load_there}
 use Rattle.numbers.proofs.chip.load_of.Goals as goal

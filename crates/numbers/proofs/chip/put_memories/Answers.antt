@@ -1,6 +1,5 @@
 -- `numbers::chip::put_memories`: one piece after the other.
 -- Assumes nothing.
-use borrow.Author.Rules.{rules}
 use Rattle.text.specs.Buffer.{buffer}
 use Rattle.text.proofs.BufferLaws.{put_then, room_then, room_before}
 use Rattle.numbers.proofs.chip.put_memories.Goals as goal

@@ -1,6 +1,5 @@
 -- `numbers::chip::put_number`: a byte's law holds of numbers (`append_byte`).
 -- Assumes nothing.
-use lib.ListN.{length-set}
 use Rattle.text.proofs.BufferLaws.{append_byte}
 use native.Mathlib.Omega.{arith}
 use Rattle.numbers.proofs.chip.put_number.Goals as goal

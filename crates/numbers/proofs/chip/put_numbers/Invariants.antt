@@ -1,12 +1,9 @@
 -- `numbers::chip::put_numbers`: so far the numbers passed have been put.
 -- Assumes nothing.
-use native.Mathlib.Omega.{arith}
-use mathlib.Core.List.{List}
-use mathlib.Core.Path.{◌≡◌, refl, ap, ◌∙◌}
-use Prim.Native.Nat.{ℕ, ◌+◌, ◌≤◌, ◌-◌}
-use lib.ListN.{length, get_or, take, set, length-set}
+use mathlib.Core.Path.{◌≡◌}
+use Prim.Native.Nat.{◌≤◌, ◌-◌}
+use lib.ListN.{length, take}
 use lib.Seq.{sets}
-use Rattle.text.proofs.BufferLaws.{sets_more, append_all}
 use Rattle.numbers.proofs.chip.put_numbers.Given as goal
 
 abbrev pub invariant-loop-i : goal.invariant-loop-i

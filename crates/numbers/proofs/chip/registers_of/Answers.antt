@@ -1,6 +1,5 @@
 -- `numbers::chip::registers_of`: the bytes of a piece of the list.
 -- Assumes nothing.
-use borrow.Author.Rules.{rules}
 use Rattle.numbers.proofs.ChipLaws.{registers_there}
 use Rattle.numbers.proofs.chip.registers_of.Goals as goal
 

@@ -1,6 +1,5 @@
 -- `numbers::chip::sram_of`: the bytes of a piece of the list.
 -- Assumes nothing.
-use borrow.Author.Rules.{rules}
 use Rattle.numbers.proofs.ChipLaws.{sram_there}
 use Rattle.numbers.proofs.chip.sram_of.Goals as goal
 

@@ -1,6 +1,5 @@
 -- `numbers::chip::stage_at`: each number fits (`fields`).
 -- Assumes nothing.
-use borrow.Author.Rules.{rules}
 use native.Mathlib.Omega.{arith}
 use Rattle.numbers.proofs.ChipLaws.{reach, fields}
 use Rattle.numbers.proofs.chip.stage_at.Goals as goal

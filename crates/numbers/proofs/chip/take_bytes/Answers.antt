@@ -1,9 +1,8 @@
 -- `numbers::chip::take_bytes`: so far the bytes passed are there.
 -- Assumes nothing.
 use native.Mathlib.Omega.{arith}
-use mathlib.Core.Path.{◌≡◌, refl}
-use Prim.Native.Nat.{◌-◌, ◌≤◌}
-use lib.ListN.{length, take, drop, length-set}
+use mathlib.Core.Path.{refl}
+use lib.ListN.{length-set}
 use Rattle.numbers.proofs.ChipLaws.{take_more, taken_all}
 use Rattle.numbers.proofs.chip.take_bytes.Goals as goal
 

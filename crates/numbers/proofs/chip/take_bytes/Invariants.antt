@@ -1,10 +1,8 @@
 -- `numbers::chip::take_bytes`: so far the bytes passed are there.
 -- Assumes nothing.
-use native.Mathlib.Omega.{arith}
-use mathlib.Core.Path.{◌≡◌, refl}
+use mathlib.Core.Path.{◌≡◌}
 use Prim.Native.Nat.{◌-◌, ◌≤◌}
-use lib.ListN.{length, take, drop, length-set}
-use Rattle.numbers.proofs.ChipLaws.{take_more, taken_all}
+use lib.ListN.{length, take, drop}
 use Rattle.numbers.proofs.chip.take_bytes.Given as goal
 
 abbrev pub invariant-loop-i : goal.invariant-loop-i

@@ -1,6 +1,5 @@
 -- `numbers::table::foreign`: kind and case as bytes are the same stage (`foreign_by`).
 -- Assumes nothing.
-use borrow.Author.Rules.{rules}
 use Rattle.numbers.proofs.TableLaws.{foreign_by}
 use Rattle.numbers.proofs.table.foreign.Goals as goal
 

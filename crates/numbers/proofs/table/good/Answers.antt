@@ -1,6 +1,5 @@
 -- `numbers::table::good`: by the row.
 -- Assumes nothing.
-use borrow.Author.Rules.{rules}
 use native.Mathlib.Omega.{arith}
 use mathlib.Core.Path.{ap, ◌∙◌}
 use lib.Dec.{ltb}

@@ -1,6 +1,5 @@
 -- `numbers::table::left_limit`: by power and frame.
 -- Assumes nothing.
-use borrow.Author.Rules.{rules}
 use lib.Dec.{eqb}
 use Rattle.numbers.proofs.TableLaws.{left_open, left_shut}
 use Rattle.numbers.proofs.table.left_limit.Goals as goal

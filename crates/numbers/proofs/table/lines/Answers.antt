@@ -1,6 +1,5 @@
 -- `numbers::table::lines`: the EEPROM's by the part, the others by the list (`row_lines_lem`).
 -- Assumes nothing.
-use borrow.Author.Rules.{rules}
 use borrow.Author.Tests.{eq-eqb, ne_eqb}
 use native.Mathlib.Omega.{arith}
 use mathlib.Core.List.{[], ◌∷◌}

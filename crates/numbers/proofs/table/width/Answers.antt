@@ -1,6 +1,5 @@
 -- `numbers::table::width`: by the list of widths (`row_width`).
 -- Assumes nothing.
-use borrow.Author.Rules.{rules}
 use native.Mathlib.Omega.{arith}
 use Rattle.numbers.proofs.TableLaws.{row_width}
 use Rattle.numbers.proofs.table.width.Goals as goal

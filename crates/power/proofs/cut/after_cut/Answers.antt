@@ -1,7 +1,6 @@
 -- `power::cut::after_cut`: the definition's setters in the code's order, from the promises of its calls.
 -- Assumes nothing.
 use Rattle.power.specs.Power.{after_cut}
-use borrow.Author.Rules.{rules}
 use Rattle.power.proofs.cut.after_cut.Goals as goal
 
 pub returns : goal.returns

@@ -2,7 +2,6 @@
 -- Assumes nothing.
 use borrow.Author.Tests.{eq-eqb, ne_eqb}
 use Rattle.power.specs.Power.{cut_count}
-use borrow.Author.Rules.{rules}
 use Rattle.power.proofs.cut.cut_count.Goals as goal
 
 pub returns-then-y-eq0 : goal.returns-then-y-eq0

@@ -1,7 +1,6 @@
 -- `power::cut::stored_count`: by the target; the mask's remainder by 2 is its bit 0 (`first_bit`).
 -- Assumes nothing.
 use Rattle.power.proofs.PowerLaws.{first_bit}
-use borrow.Author.Rules.{rules}
 use Rattle.power.proofs.cut.stored_count.Goals as goal
 
 pub returns-in-Eeprom : goal.returns-in-Eeprom

@@ -3,7 +3,6 @@
 use native.Mathlib.Omega.{arith}
 use mathlib.Core.Path.{sym}
 use Rattle.record.proofs.StampLaws.{same_masks, stamp_mask}
-use borrow.Author.Rules.{rules}
 use Rattle.record.proofs.registers.kept_bits.Goals as goal
 
 pub returns-then-at : goal.returns-then-at

@@ -1,7 +1,6 @@
 -- `record::stamps::stamped_at`: the definition's four values, and the promise of `stamp_at`.
 -- Assumes nothing.
 use Rattle.record.specs.Stamps.{stamped}
-use borrow.Author.Rules.{rules}
 use Rattle.record.proofs.stamps.stamped_at.Goals as goal
 
 pub returns : goal.returns

@@ -1,7 +1,6 @@
 -- `record::stamps::unstamped`: one time-stamp of zeros after the other, from both promises.
 -- Assumes nothing.
 use Rattle.record.specs.Stamps.{unstamped}
-use borrow.Author.Rules.{rules}
 use Rattle.record.proofs.stamps.unstamped.Goals as goal
 
 pub returns : goal.returns

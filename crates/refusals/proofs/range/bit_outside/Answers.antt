@@ -2,11 +2,9 @@
 -- that a register may hold are a promise.
 -- Assumes nothing.
 use mathlib.Core.Path.{◌≡◌}
-use mathlib.Core.Bool.{true}
-use Prim.Native.Nat.{ℕ, ◌≤◌, ◌<◌, ◌-◌}
+use Prim.Native.Nat.{ℕ, ◌<◌}
 use native.Mathlib.Omega.{arith}
 use borrow.Author.Tests.{eq-eqb, ne_eqb}
-use Rattle.base.specs.Words.{every}
 use Rattle.base.proofs.Every.{every_none, every_more, every_false}
 use Rattle.refusals.specs.Range.{inside_mask, bit_outside}
 use Rattle.refusals.proofs.range.bit_outside.Goals as goal

@@ -3,12 +3,9 @@
 -- Assumes nothing.
 use mathlib.Core.Path.{◌≡◌}
 use mathlib.Core.Bool.{true}
-use Prim.Native.Nat.{ℕ, ◌≤◌, ◌<◌, ◌-◌}
-use native.Mathlib.Omega.{arith}
-use borrow.Author.Tests.{eq-eqb, ne_eqb}
+use Prim.Native.Nat.{◌≤◌, ◌-◌}
 use Rattle.base.specs.Words.{every}
-use Rattle.base.proofs.Every.{every_none, every_more, every_false}
-use Rattle.refusals.specs.Range.{inside_mask, bit_outside}
+use Rattle.refusals.specs.Range.{inside_mask}
 use Rattle.refusals.proofs.range.bit_outside.Given as goal
 
 abbrev pub invariant-loop-i : goal.invariant-loop-i

@@ -1,7 +1,6 @@
 -- `refusals::range::cycle_out`: the code's tests in a row are the definition's list; the place is a promise.
 -- Assumes nothing.
 use Rattle.refusals.specs.Range.{cycle_out}
-use borrow.Author.Rules.{rules}
 use Rattle.refusals.proofs.range.cycle_out.Goals as goal
 
 pub returns : goal.returns

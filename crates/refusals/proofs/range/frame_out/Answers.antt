@@ -1,7 +1,6 @@
 -- `refusals::range::frame_out`: the code's tests in a row are the definition's list; the place is a promise.
 -- Assumes nothing.
 use Rattle.refusals.specs.Range.{frame_out}
-use borrow.Author.Rules.{rules}
 use Rattle.refusals.proofs.range.frame_out.Goals as goal
 
 pub returns : goal.returns

@@ -1,7 +1,6 @@
 -- `refusals::range::out_of_range_lem`: the five subjects in a row, each by its call's promise.
 -- Assumes nothing.
 use Rattle.refusals.specs.Range.{out_of_range}
-use borrow.Author.Rules.{rules}
 use Rattle.refusals.proofs.range.out_of_range.Goals as goal
 
 pub returns : goal.returns

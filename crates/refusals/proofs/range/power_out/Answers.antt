@@ -1,7 +1,6 @@
 -- `refusals::range::power_out`: the code's tests in a row are the definition's list; two are promises.
 -- Assumes nothing.
 use Rattle.refusals.specs.Range.{power_out}
-use borrow.Author.Rules.{rules}
 use Rattle.refusals.proofs.range.power_out.Goals as goal
 
 pub returns : goal.returns

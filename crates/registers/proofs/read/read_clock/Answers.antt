@@ -2,7 +2,6 @@
 -- Assumes nothing.
 use borrow.Author.Tests.{le-ltb, lt-ltb}
 use Rattle.registers.specs.Read.{read_clock}
-use borrow.Author.Rules.{rules}
 use Rattle.registers.proofs.read.read_clock.Goals as goal
 
 pub returns-then-a-lt32 : goal.returns-then-a-lt32

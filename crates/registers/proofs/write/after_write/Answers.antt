@@ -2,7 +2,6 @@
 -- Assumes nothing.
 use borrow.Author.Tests.{eq-eqb, ne_eqb}
 use Rattle.registers.specs.Write.{after_write}
-use borrow.Author.Rules.{rules}
 use Rattle.registers.proofs.write.after_write.Goals as goal
 
 pub returns-then-boots-d : goal.returns-then-boots-d

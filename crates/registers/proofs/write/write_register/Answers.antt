@@ -1,6 +1,5 @@
 -- `registers::write::write_register`: what is stored, VBAT as it was and what follows, from the three promises.
 -- Assumes nothing.
-use borrow.Author.Rules.{rules}
 use Rattle.registers.proofs.write.write_register.Goals as goal
 
 pub returns : goal.returns

@@ -1,6 +1,5 @@
 -- `saved::key::key_of`: a piece of all keys (`key_is`).
 -- Assumes nothing.
-use borrow.Author.Rules.{rules}
 use native.Mathlib.Omega.{arith}
 use mathlib.Core.Path.{ap, ◌∙◌}
 use Prim.Native.Nat.{◌*◌}

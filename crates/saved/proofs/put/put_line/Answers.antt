@@ -1,6 +1,5 @@
 -- `saved::put::put_line`: its head, then its numbers (`line_text_lem`).
 -- Assumes nothing.
-use borrow.Author.Rules.{rules}
 use native.Mathlib.Omega.{arith}
 use mathlib.Core.Path.{refl, sym, ap, subst, ◌∙◌}
 use mathlib.Core.List.{List}

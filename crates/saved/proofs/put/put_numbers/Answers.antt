@@ -1,15 +1,15 @@
 -- `saved::put::put_numbers`: of the text of all numbers, those after the first j are to come (`Part`).
 -- Assumes nothing.
 use native.Mathlib.Omega.{arith}
-use mathlib.Core.Path.{◌≡◌, refl, sym, ap, ◌∙◌}
+use mathlib.Core.Path.{refl, sym, ap, ◌∙◌}
 use mathlib.Core.List.{[], ◌∷◌, ◌++◌}
-use Prim.Native.Nat.{ℕ, ◌+◌, ◌-◌, ◌≤◌}
-use lib.ListN.{length, take, drop, get_or}
+use Prim.Native.Nat.{ℕ, ◌+◌, ◌-◌}
+use lib.ListN.{take, drop, get_or}
 use Rattle.text.specs.Buffer.{buffer}
 use Rattle.text.specs.Decimal.{decimal_text}
 use Rattle.text.proofs.BufferLaws.{put_then, room_then, room_before}
 use Rattle.saved.specs.Reading.{mark_after, run_text}
-use Rattle.saved.proofs.PutLaws.{Part, part_none, part_more, part_room, part_all, run_next, run_end}
+use Rattle.saved.proofs.PutLaws.{part_none, part_more, part_room, part_all, run_next, run_end}
 use Rattle.saved.proofs.put.put_numbers.Goals as goal
 
 pub loop-j-init : goal.loop-j-init

@@ -1,15 +1,11 @@
 -- `saved::put::put_numbers`: of the text of all numbers, those after the first j are to come (`Part`).
 -- Assumes nothing.
-use native.Mathlib.Omega.{arith}
-use mathlib.Core.Path.{◌≡◌, refl, sym, ap, ◌∙◌}
-use mathlib.Core.List.{[], ◌∷◌, ◌++◌}
-use Prim.Native.Nat.{ℕ, ◌+◌, ◌-◌, ◌≤◌}
-use lib.ListN.{length, take, drop, get_or}
+use mathlib.Core.Path.{◌≡◌}
+use Prim.Native.Nat.{◌-◌, ◌≤◌}
+use lib.ListN.{length, take, drop}
 use Rattle.text.specs.Buffer.{buffer}
-use Rattle.text.specs.Decimal.{decimal_text}
-use Rattle.text.proofs.BufferLaws.{put_then, room_then, room_before}
-use Rattle.saved.specs.Reading.{mark_after, run_text}
-use Rattle.saved.proofs.PutLaws.{Part, part_none, part_more, part_room, part_all, run_next, run_end}
+use Rattle.saved.specs.Reading.{run_text}
+use Rattle.saved.proofs.PutLaws.{Part}
 use Rattle.saved.proofs.put.put_numbers.Given as goal
 
 abbrev pub invariant-loop-j : goal.invariant-loop-j

@@ -5,11 +5,10 @@ use mathlib.Core.Path.{◌≡◌, refl, sym, subst, ◌∙◌}
 use mathlib.Core.List.{List}
 use Prim.Native.Nat.{ℕ, ◌+◌, ◌-◌, ◌*◌, ◌≤◌, ◌<◌}
 use native.Mathlib.Nat.{zero-mul}
-use lib.ListN.{length}
 use Rattle.text.specs.Buffer.{buffer}
 use Rattle.form.specs.Table.{row_text}
 use Rattle.numbers.specs.Tables.{row_at}
-use Rattle.saved.proofs.PutLaws.{Part, part_none, part_all, row_begins, row_ends, line_there, line-room, line-put, place_next}
+use Rattle.saved.proofs.PutLaws.{Part, part_none, part_all, row_begins, row_ends, line_there, line_room, line_put, place_next}
 use Rattle.saved.proofs.LoopLaws.{width_most}
 use Rattle.saved.proofs.put.put_row.Goals as goal
 
@@ -50,7 +49,7 @@ put_line-end-requires c =
       i_bound = few t h.lines_bound;
       width_nonzero = subst (λ (z : ℕ). 0 < z) (sym w) (width_most a.row h.row_lt_row_count).0;
       width_in_bounds = line_there r a.lines l.i a.from c.width-width.result l.place ns w v.2 t h.row_in_bounds;
-      numbers_in_bounds = line-room r a.lines l.i a.from c.width-width.result l.place ns w v.2 t h.row_in_bounds o all b v.3 h.numbers_in_bounds;
+      numbers_in_bounds = line_room r a.lines l.i a.from c.width-width.result l.place ns w v.2 t h.row_in_bounds o all b v.3 h.numbers_in_bounds;
     }
 
 pub overflow_add-place : goal.overflow_add-place
@@ -81,7 +80,7 @@ loop-i-preserved c =
     let t = c.loop-i-test.true in
     let v = l.invariant in
     let b = buffer l.into l.end in
-    (omega (arith, t), c.put_line-end.auto.into ∙ v.1, place_next r a.lines l.i a.from c.width-width.result l.place ns w v.2 t h.row_in_bounds, line-put r a.lines l.i a.from c.width-width.result l.place ns w v.2 t h.row_in_bounds o all b v.3 _ c.put_line-end.ensures)
+    (omega (arith, t), c.put_line-end.auto.into ∙ v.1, place_next r a.lines l.i a.from c.width-width.result l.place ns w v.2 t h.row_in_bounds, line_put r a.lines l.i a.from c.width-width.result l.place ns w v.2 t h.row_in_bounds o all b v.3 _ c.put_line-end.ensures)
 
 pub returns : goal.returns
 returns c =

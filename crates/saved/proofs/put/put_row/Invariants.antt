@@ -1,16 +1,12 @@
 -- `saved::put::put_row`: of the row's text, the lines after the first i are to come (`Part`).
 -- Assumes nothing.
-use native.Mathlib.Omega.{arith}
-use mathlib.Core.Path.{◌≡◌, refl, sym, subst, ◌∙◌}
-use mathlib.Core.List.{List}
-use Prim.Native.Nat.{ℕ, ◌+◌, ◌-◌, ◌*◌, ◌≤◌, ◌<◌}
-use native.Mathlib.Nat.{zero-mul}
+use mathlib.Core.Path.{◌≡◌}
+use Prim.Native.Nat.{◌+◌, ◌-◌, ◌*◌, ◌≤◌}
 use lib.ListN.{length}
 use Rattle.text.specs.Buffer.{buffer}
 use Rattle.form.specs.Table.{row_text}
 use Rattle.numbers.specs.Tables.{row_at}
-use Rattle.saved.proofs.PutLaws.{Part, part_none, part_all, row_begins, row_ends, line_there, line-room, line-put, place_next}
-use Rattle.saved.proofs.LoopLaws.{width_most}
+use Rattle.saved.proofs.PutLaws.{Part}
 use Rattle.saved.proofs.put.put_row.Given as goal
 
 abbrev pub invariant-loop-i : goal.invariant-loop-i

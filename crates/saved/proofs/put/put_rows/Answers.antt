@@ -1,16 +1,15 @@
 -- `saved::put::put_rows`: of the whole text, the rows after the first i are to come (`Left`).
 -- Assumes nothing.
 use native.Mathlib.Omega.{arith}
-use mathlib.Core.Path.{◌≡◌, refl, sym, subst, ◌∙◌}
-use Prim.Native.Nat.{ℕ, ◌+◌, ◌-◌, ◌*◌, ◌≤◌, ◌<◌}
+use mathlib.Core.Path.{refl, sym, subst, ◌∙◌}
+use Prim.Native.Nat.{ℕ, ◌+◌, ◌*◌, ◌≤◌, ◌<◌}
 use native.Mathlib.Nat.{zero-add}
 use lib.ListN.{length, take}
 use Rattle.text.specs.Buffer.{buffer}
 use Rattle.form.specs.Table.{part_in}
 use Rattle.form.specs.Chip.{form_text}
-use Rattle.numbers.specs.Tables.{row_at}
 use Rattle.form.proofs.FactLaws.{good_facts}
-use Rattle.saved.proofs.PutLaws.{Left, left_none, left_more, left_all, row_there, row_room, lines_of, place_past}
+use Rattle.saved.proofs.PutLaws.{left_none, left_more, left_all, row_there, row_room, lines_of, place_past}
 use Rattle.saved.proofs.LoopLaws.{lines_most, width_most}
 use Rattle.saved.proofs.put.put_rows.Goals as goal
 
@@ -63,8 +62,8 @@ overflow_mul-place c =
     let n = c.lines-lines.result in
     let m = lines_of ns l.row l.place n t l.invariant.2 c.lines-lines.ensures in
     let r =
-        subst (λ (q : ℕ). l.place + n * q ≤ length ns) (sym c.width-width.ensures)
-        (row_there (buffer c.args.into.now 0) ns l.row l.place n (buffer l.into l.end) t l.invariant.3 m) in
+    subst (λ (q : ℕ). l.place + n * q ≤ length ns) (sym c.width-width.ensures)
+    (row_there (buffer c.args.into.now 0) ns l.row l.place n (buffer l.into l.end) t l.invariant.3 m) in
     record { fits = omega (arith, r) }
 
 pub overflow_add-place : goal.overflow_add-place
@@ -75,8 +74,8 @@ overflow_add-place c =
     let n = c.lines-lines.result in
     let m = lines_of ns l.row l.place n t l.invariant.2 c.lines-lines.ensures in
     let r =
-        subst (λ (q : ℕ). l.place + n * q ≤ length ns) (sym c.width-width.ensures)
-        (row_there (buffer c.args.into.now 0) ns l.row l.place n (buffer l.into l.end) t l.invariant.3 m) in
+    subst (λ (q : ℕ). l.place + n * q ≤ length ns) (sym c.width-width.ensures)
+    (row_there (buffer c.args.into.now 0) ns l.row l.place n (buffer l.into l.end) t l.invariant.3 m) in
     record { fits = omega (arith, r) }
 
 pub loop-row-preserved : goal.loop-row-preserved

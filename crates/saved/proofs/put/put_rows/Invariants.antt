@@ -1,17 +1,10 @@
 -- `saved::put::put_rows`: of the whole text, the rows after the first i are to come (`Left`).
 -- Assumes nothing.
-use native.Mathlib.Omega.{arith}
-use mathlib.Core.Path.{◌≡◌, refl, sym, subst, ◌∙◌}
-use Prim.Native.Nat.{ℕ, ◌+◌, ◌-◌, ◌*◌, ◌≤◌, ◌<◌}
-use native.Mathlib.Nat.{zero-add}
-use lib.ListN.{length, take}
+use mathlib.Core.Path.{◌≡◌}
+use Prim.Native.Nat.{◌-◌, ◌≤◌}
+use lib.ListN.{length}
 use Rattle.text.specs.Buffer.{buffer}
-use Rattle.form.specs.Table.{part_in}
-use Rattle.form.specs.Chip.{form_text}
-use Rattle.numbers.specs.Tables.{row_at}
-use Rattle.form.proofs.FactLaws.{good_facts}
-use Rattle.saved.proofs.PutLaws.{Left, left_none, left_more, left_all, row_there, row_room, lines_of, place_past}
-use Rattle.saved.proofs.LoopLaws.{lines_most, width_most}
+use Rattle.saved.proofs.PutLaws.{Left}
 use Rattle.saved.proofs.put.put_rows.Given as goal
 
 abbrev pub invariant-loop-row : goal.invariant-loop-row

@@ -1,12 +1,11 @@
 -- `saved::read::read_between`: after some of the rows what is left gives what all of them give (`Reads`).
 -- Assumes nothing.
 use native.Mathlib.Omega.{arith}
-use mathlib.Core.Path.{refl, sym, ◌∙◌}
-use Prim.Native.Nat.{◌-◌, ◌≤◌}
+use mathlib.Core.Path.{refl}
 use lib.ListN.{take}
 use Rattle.saved.specs.Reading.{got}
 use Rattle.saved.specs.Place.{reading_at}
-use Rattle.saved.proofs.LoopLaws.{Reads, reads_none, reads_more, reads_room, reads_all}
+use Rattle.saved.proofs.LoopLaws.{reads_none, reads_more, reads_room, reads_all}
 use Rattle.saved.proofs.read.read_between.Goals as goal
 
 pub loop-row-init : goal.loop-row-init

@@ -1,12 +1,10 @@
 -- `saved::read::read_between`: after some of the rows what is left gives what all of them give (`Reads`).
 -- Assumes nothing.
-use native.Mathlib.Omega.{arith}
-use mathlib.Core.Path.{refl, sym, ◌∙◌}
 use Prim.Native.Nat.{◌-◌, ◌≤◌}
 use lib.ListN.{take}
 use Rattle.saved.specs.Reading.{got}
 use Rattle.saved.specs.Place.{reading_at}
-use Rattle.saved.proofs.LoopLaws.{Reads, reads_none, reads_more, reads_room, reads_all}
+use Rattle.saved.proofs.LoopLaws.{Reads}
 use Rattle.saved.proofs.read.read_between.Given as goal
 
 abbrev pub invariant-loop-row : goal.invariant-loop-row

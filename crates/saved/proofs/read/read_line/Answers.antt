@@ -1,6 +1,5 @@
 -- `saved::read::read_line`: its head, its numbers, its end (`line_is`, `line_ends`).
 -- Assumes nothing.
-use borrow.Author.Rules.{rules}
 use native.Mathlib.Omega.{arith}
 use mathlib.Core.Path.{refl, ◌∙◌}
 use Prim.Native.Nat.{ℕ, ◌<◌}

@@ -1,15 +1,15 @@
 -- `saved::read::read_numbers`: after j numbers what is left gives what the whole gives (`Went`).
 -- Assumes nothing.
 use native.Mathlib.Omega.{arith}
-use mathlib.Core.Path.{◌≡◌, sym, ap, ◌∙◌}
+use mathlib.Core.Path.{ap, ◌∙◌}
 use mathlib.Core.List.{[], ◌∷◌}
 use borrow.Author.Rules.{rules}
 use Rattle.saved.specs.Reading.{past_word}
-use Prim.Native.Nat.{ℕ, ◌+◌, ◌-◌, ◌≤◌}
-use lib.ListN.{length, take, length-set}
+use Prim.Native.Nat.{ℕ, ◌+◌, ◌≤◌}
+use lib.ListN.{take, length-set}
 use Rattle.numbers.specs.Tables.{row_at}
 use Rattle.saved.specs.Place.{reading_at}
-use Rattle.saved.proofs.LoopLaws.{Went, went_more, went_all, line_went, held_long, good_alike}
+use Rattle.saved.proofs.LoopLaws.{went_more, went_all, line_went, held_long, good_alike}
 use Rattle.saved.proofs.read.read_numbers.Goals as goal
 
 pub loop-j-init : goal.loop-j-init

@@ -2,14 +2,14 @@
 -- Assumes nothing.
 -- after a line has been read: its numbers are in the array
 use native.Mathlib.Omega.{arith}
-use mathlib.Core.Path.{◌≡◌, refl, sym, subst, ◌∙◌}
-use Prim.Native.Nat.{ℕ, ◌+◌, ◌-◌, ◌≤◌, ◌<◌}
-use lib.ListN.{length, take}
+use mathlib.Core.Path.{◌≡◌, refl, sym, subst}
+use Prim.Native.Nat.{ℕ, ◌+◌, ◌≤◌, ◌<◌}
+use lib.ListN.{take}
 use Rattle.form.specs.Table.{span}
 use Rattle.numbers.specs.Tables.{row_at}
 use Rattle.saved.specs.Reading.{got}
 use Rattle.saved.specs.Place.{reading_at}
-use Rattle.saved.proofs.LoopLaws.{Rows, rows_none, rows_step, rows_all, lines_are, lines_most, width_most, line_fits, held_long}
+use Rattle.saved.proofs.LoopLaws.{rows_none, rows_step, rows_all, lines_are, lines_most, width_most, line_fits, held_long}
 use Rattle.saved.proofs.read.read_row.Goals as goal
 
 less : {m : ℕ} (s : ℕ) → m + s ≤ 400 → m ≤ 400
@@ -65,8 +65,8 @@ overflow_add-at c =
     let w = c.width-width.ensures in
     let n = lines_are c.args.row _ c.args.numbers.now c.args.count c.requires.row_lt_row_count c.requires.holds c.lines-lines.ensures in
     let m =
-        line_fits c.args.row _ c.args.numbers.now c.args.count c.loop-i.i c.loop-i.at c.requires.holds n c.requires.numbers_bound c.loop-i-test.true
-        c.loop-i.invariant.2.counted in
+    line_fits c.args.row _ c.args.numbers.now c.args.count c.loop-i.i c.loop-i.at c.requires.holds n c.requires.numbers_bound c.loop-i-test.true
+    c.loop-i.invariant.2.counted in
     record { fits = omega (arith, m, w) }
 
 pub loop-i-preserved : goal.loop-i-preserved
@@ -79,8 +79,8 @@ loop-i-preserved c =
     let d = c.read_line-place in
     let n = lines_are c.args.row _ c.args.numbers.now c.args.count c.requires.row_lt_row_count c.requires.holds c.lines-lines.ensures in
     let m =
-        line_fits c.args.row _ c.args.numbers.now c.args.count c.loop-i.i c.loop-i.at c.requires.holds n c.requires.numbers_bound c.loop-i-test.true
-        c.loop-i.invariant.2.counted in
+    line_fits c.args.row _ c.args.numbers.now c.args.count c.loop-i.i c.loop-i.at c.requires.holds n c.requires.numbers_bound c.loop-i-test.true
+    c.loop-i.invariant.2.counted in
     let v = rows_step (row_at a.row) c.lines-lines.result (got (take a.count a.numbers.now) (reading_at x a.p))
     w.result w.ensures l.i l.at l.numbers (reading_at x l.place) _
     (reading_at x d.result) t m (width_most a.row c.requires.row_lt_row_count).0 l.invariant.2 d.ensures.numbers_after

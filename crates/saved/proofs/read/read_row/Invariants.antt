@@ -1,15 +1,13 @@
 -- `saved::read::read_row`: after i lines what is left gives what the whole gives (`Rows`).
 -- Assumes nothing.
 -- after a line has been read: its numbers are in the array
-use native.Mathlib.Omega.{arith}
-use mathlib.Core.Path.{◌≡◌, refl, sym, subst, ◌∙◌}
-use Prim.Native.Nat.{ℕ, ◌+◌, ◌-◌, ◌≤◌, ◌<◌}
+use mathlib.Core.Path.{◌≡◌}
+use Prim.Native.Nat.{◌-◌, ◌≤◌}
 use lib.ListN.{length, take}
-use Rattle.form.specs.Table.{span}
 use Rattle.numbers.specs.Tables.{row_at}
 use Rattle.saved.specs.Reading.{got}
 use Rattle.saved.specs.Place.{reading_at}
-use Rattle.saved.proofs.LoopLaws.{Rows, rows_none, rows_step, rows_all, lines_are, lines_most, width_most, line_fits, held_long}
+use Rattle.saved.proofs.LoopLaws.{Rows}
 use Rattle.saved.proofs.read.read_row.Given as goal
 
 abbrev pub invariant-loop-i : goal.invariant-loop-i

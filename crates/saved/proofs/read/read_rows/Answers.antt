@@ -1,9 +1,8 @@
--- `saved::read::read_rows`: the rows that every text has, then those that one may lack (`text-ended`, `text-on`).
+-- `saved::read::read_rows`: the rows that every text has, then those that one may lack (`text_ended`, `text_on`).
 -- Assumes nothing.
-use borrow.Author.Rules.{rules}
 use native.Mathlib.Omega.{arith}
 use Rattle.saved.specs.Place.{most}
-use Rattle.saved.proofs.LoopLaws.{none_held, few-read, text-ended, text-on}
+use Rattle.saved.proofs.LoopLaws.{none_held, few_read, text_ended, text_on}
 use Rattle.saved.proofs.read.read_rows.Goals as goal
 
 pub read_between-older-requires : goal.read_between-older-requires
@@ -22,14 +21,14 @@ returns-then-place-text c =
     let x = c.args.text.now in
     let o = c.read_between-older in
     let p = o.result.place in
-    text-on x _ p.at p.lines o.result.count p.stopped o.ensures _ _ _ c.if-place-text.true c.read_between.ensures
+    text_on x _ p.at p.lines o.result.count p.stopped o.ensures _ _ _ c.if-place-text.true c.read_between.ensures
 
 pub overflow_add-result : goal.overflow_add-result
 overflow_add-result c =
     let x = c.args.text.now in
     let o = c.read_between-older in
     let p = o.result.place in
-    let h = few-read x _ p.at p.lines o.result.count p.stopped o.ensures in
+    let h = few_read x _ p.at p.lines o.result.count p.stopped o.ensures in
     record { fits = omega (arith, h) }
 
 pub returns : goal.returns
@@ -37,4 +36,4 @@ returns c =
     let x = c.args.text.now in
     let o = c.read_between-older in
     let p = o.result.place in
-    text-ended x _ p.at p.lines o.result.count p.stopped o.ensures c.if-place-text.false
+    text_ended x _ p.at p.lines o.result.count p.stopped o.ensures c.if-place-text.false

@@ -1,6 +1,5 @@
 -- `saved::scan::number_at`: by the digits that lead.
 -- Assumes nothing.
-use borrow.Author.Rules.{rules}
 use native.Mathlib.Omega.{arith}
 use mathlib.Core.Path.{◌∙◌, ap}
 use lib.ListN.{drop, take, length-drop}

@@ -1,6 +1,5 @@
 -- `saved::scan::past_word`: by how far the text agrees.
 -- Assumes nothing.
-use borrow.Author.Rules.{rules}
 use native.Mathlib.Omega.{arith}
 use mathlib.Core.Path.{◌∙◌, ap}
 use lib.ListN.{drop, length-drop}

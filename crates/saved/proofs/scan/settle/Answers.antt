@@ -1,6 +1,5 @@
 -- `saved::scan::settle`: by the test.
 -- Assumes nothing.
-use borrow.Author.Rules.{rules}
 use native.Mathlib.Omega.{arith}
 use lib.ListN.{drop}
 use Rattle.saved.specs.Reading.{reading}

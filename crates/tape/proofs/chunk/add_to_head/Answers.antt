@@ -4,7 +4,6 @@ use native.Mathlib.Omega.{arith}
 use mathlib.Core.Path.{ap, ◌∙◌}
 use Prim.Native.Nat.{ℕ}
 use lib.ListN.{length, take, length-take}
-use borrow.Author.Rules.{rules}
 use Rattle.text.specs.Buffer.{buffer, append}
 use Rattle.tape.proofs.TapeLaws.{head_put}
 use Rattle.tape.proofs.chunk.add_to_head.Goals as goal

@@ -5,7 +5,6 @@ use mathlib.Core.Path.{◌≡◌, sym, ap, ◌∙◌}
 use mathlib.Core.List.{List, ◌++◌}
 use Prim.Native.Nat.{ℕ, ◌≤◌}
 use lib.ListN.{length, take, length-take}
-use borrow.Author.Rules.{rules}
 use Rattle.text.specs.Buffer.{buffer}
 use Rattle.answers.specs.Answer.{held_by, setup_in, line_answer, shown_in}
 use Rattle.tape.specs.Tape.{head, head_limit}

@@ -1,7 +1,6 @@
 -- `tape::chunk::feed`: a tape's chunk, and what is no tape.
 -- Assumes nothing.
 use mathlib.Core.Path.{sym, ◌∙◌}
-use borrow.Author.Rules.{rules}
 use Rattle.base.proofs.Tests.{yes, no}
 use Rattle.tape.specs.Tape.{is_tape, feed_into}
 use Rattle.tape.proofs.chunk.feed.Goals as goal

@@ -1,23 +1,19 @@
 -- `tape::chunk::feed_lines`: so far the bytes before a place are fed and their answers are in the buffer.
 -- Assumes nothing.
-use borrow.Author.Rules.{rules}
 use native.Mathlib.Omega.{arith}
-use mathlib.Core.Path.{◌≡◌, refl, ap, ◌∙◌}
-use mathlib.Core.List.{List, ◌++◌}
-use Prim.Native.Nat.{ℕ, ◌+◌, ◌-◌, ◌^◌, ◌<◌, ◌≤◌}
-use lib.ListN.{length, take, length-take, length-drop}
-use Rattle.text.specs.Bytes.{plain}
+use mathlib.Core.Path.{refl, ap, ◌∙◌}
+use mathlib.Core.List.{◌++◌}
+use Prim.Native.Nat.{◌-◌}
+use lib.ListN.{length, take}
 use Rattle.text.specs.Buffer.{buffer}
-use Rattle.text.proofs.BytesLaws.{leading_within}
-use Rattle.lines.specs.Print.{answer_room}
 use Rattle.base.specs.Words.{over}
 use Rattle.answers.specs.Answer.{line_answer, held_by, setup_in}
 use Rattle.answers.proofs.AnswerLaws.{shown_held, shown_written}
-use Rattle.answers.proofs.HeldLaws.{Onward, onward_start, onward_line}
+use Rattle.answers.proofs.HeldLaws.{onward_start, onward_line}
 use Rattle.tape.specs.declared.Feed.{Feed}
-use Rattle.tape.specs.Tape.{head, head_limit, Headed, state, loan, held_in, given_by}
-use Rattle.tape.proofs.TapeLaws.{Sofar, sofar_start, sofar_done, turn-stop, turn-line, stops, goes, TapeFacts, tape_facts, tape_sound, lent_after, kept_same, given}
-use Rattle.tape.proofs.TurnLaws.{Bounds, Piece, piece_in, Next, next_in, short}
+use Rattle.tape.specs.Tape.{head, state, loan, held_in, given_by}
+use Rattle.tape.proofs.TapeLaws.{sofar_start, sofar_done, turn_stop, turn_line, stops, goes, tape_facts, tape_sound, lent_after, kept_same, given}
+use Rattle.tape.proofs.TurnLaws.{piece_in, next_in, short}
 use Rattle.tape.proofs.chunk.feed_lines.Goals as goal
 
 pub loop-from-init : goal.loop-from-init
@@ -35,8 +31,8 @@ add_to_head-more-requires c = record { size = ap length c.loop-from.invariant.0.
 pub overflow_add-from : goal.overflow_add-from
 overflow_add-from c =
     let d =
-        piece_in c.args.chunk.now c.rest-left.result.now c.loop-from.from c.leading_of-n.result c.rest-left.ensures c.leading_of-n.ensures
-        c.loop-from.invariant.0.place in
+    piece_in c.args.chunk.now c.rest-left.result.now c.loop-from.from c.leading_of-n.result c.rest-left.ensures c.leading_of-n.ensures
+    c.loop-from.invariant.0.place in
     omega (arith, d)
 
 pub returns-then-stops : goal.returns-then-stops
@@ -50,7 +46,7 @@ returns-then-stops c =
     ap (λ (f : Feed). given_by f k.new.line l.eeprom l.id l.into) c.feed_of.ensures
     ∙ given l₀ _ (state (setup_in h) kept) (buffer l.into l.p.at) _ _
     (lent_after l₀ h kept k.new.line k.result l.invariant.1 k.ensures.0 (k.ensures.1 ∙ ap (over kept) l.invariant.0.line))
-    (turn-stop _ _ _ l.from _ _ _ (short l.line l.begun l.invariant.0.head) l.invariant.2
+    (turn_stop _ _ _ l.from _ _ _ (short l.line l.begun l.invariant.0.head) l.invariant.2
     _ c.rest-left.ensures _ c.leading_of-n.ensures _ c.first-piece.ensures
     (stops _ _ _ _ c.room.ensures c.if-stops.true) kept refl)
 
@@ -59,11 +55,11 @@ end_line-p-requires c =
     let i = c.loop-from.invariant.0 in
     let b = (tape_facts (loan c.args.tape c.args.line.now c.args.eeprom.now c.args.id.now) c.requires).lent in
     let d =
-        piece_in c.args.chunk.now c.rest-left.result.now c.loop-from.from c.leading_of-n.result c.rest-left.ensures c.leading_of-n.ensures
-        c.loop-from.invariant.0.place in
+    piece_in c.args.chunk.now c.rest-left.result.now c.loop-from.from c.leading_of-n.result c.rest-left.ensures c.leading_of-n.ensures
+    c.loop-from.invariant.0.place in
     let n =
-        next_in c.args.chunk.now c.rest-left.result.now c.loop-from.from c.leading_of-n.result (length c.loop-from.into - c.loop-from.p.at) d
-        (goes _ _ _ _ d.size c.room.ensures c.if-stops.false) in
+    next_in c.args.chunk.now c.rest-left.result.now c.loop-from.from c.leading_of-n.result (length c.loop-from.into - c.loop-from.p.at) d
+    (goes _ _ _ _ d.size c.room.ensures c.if-stops.false) in
     record {
       headed = record { size = ap length c.loop-from.invariant.0.line ∙ (tape_facts (loan c.args.tape c.args.line.now c.args.eeprom.now c.args.id.now) c.requires).headed.size; within = c.loop-from.invariant.0.head };
       lent = record { eeprom = i.eeprom ∙ b.eeprom; id = i.id ∙ b.id };
@@ -74,31 +70,31 @@ end_line-p-requires c =
 pub overflow_add-from-in-loop-from : goal.overflow_add-from-in-loop-from
 overflow_add-from-in-loop-from c =
     let d =
-        piece_in c.args.chunk.now c.rest-left.result.now c.loop-from.from c.leading_of-n.result c.rest-left.ensures c.leading_of-n.ensures
-        c.loop-from.invariant.0.place in
+    piece_in c.args.chunk.now c.rest-left.result.now c.loop-from.from c.leading_of-n.result c.rest-left.ensures c.leading_of-n.ensures
+    c.loop-from.invariant.0.place in
     let n =
-        next_in c.args.chunk.now c.rest-left.result.now c.loop-from.from c.leading_of-n.result (length c.loop-from.into - c.loop-from.p.at) d
-        (goes _ _ _ _ d.size c.room.ensures c.if-stops.false) in
+    next_in c.args.chunk.now c.rest-left.result.now c.loop-from.from c.leading_of-n.result (length c.loop-from.into - c.loop-from.p.at) d
+    (goes _ _ _ _ d.size c.room.ensures c.if-stops.false) in
     omega (arith, n)
 
 pub overflow_add-from-in-loop-from-2 : goal.overflow_add-from-in-loop-from-2
 overflow_add-from-in-loop-from-2 c =
     let d =
-        piece_in c.args.chunk.now c.rest-left.result.now c.loop-from.from c.leading_of-n.result c.rest-left.ensures c.leading_of-n.ensures
-        c.loop-from.invariant.0.place in
+    piece_in c.args.chunk.now c.rest-left.result.now c.loop-from.from c.leading_of-n.result c.rest-left.ensures c.leading_of-n.ensures
+    c.loop-from.invariant.0.place in
     let n =
-        next_in c.args.chunk.now c.rest-left.result.now c.loop-from.from c.leading_of-n.result (length c.loop-from.into - c.loop-from.p.at) d
-        (goes _ _ _ _ d.size c.room.ensures c.if-stops.false) in
+    next_in c.args.chunk.now c.rest-left.result.now c.loop-from.from c.leading_of-n.result (length c.loop-from.into - c.loop-from.p.at) d
+    (goes _ _ _ _ d.size c.room.ensures c.if-stops.false) in
     omega (arith, n)
 
 pub loop-from-smaller : goal.loop-from-smaller
 loop-from-smaller c =
     let d =
-        piece_in c.args.chunk.now c.rest-left.result.now c.loop-from.from c.leading_of-n.result c.rest-left.ensures c.leading_of-n.ensures
-        c.loop-from.invariant.0.place in
+    piece_in c.args.chunk.now c.rest-left.result.now c.loop-from.from c.leading_of-n.result c.rest-left.ensures c.leading_of-n.ensures
+    c.loop-from.invariant.0.place in
     let n =
-        next_in c.args.chunk.now c.rest-left.result.now c.loop-from.from c.leading_of-n.result (length c.loop-from.into - c.loop-from.p.at) d
-        (goes _ _ _ _ d.size c.room.ensures c.if-stops.false) in
+    next_in c.args.chunk.now c.rest-left.result.now c.loop-from.from c.leading_of-n.result (length c.loop-from.into - c.loop-from.p.at) d
+    (goes _ _ _ _ d.size c.room.ensures c.if-stops.false) in
     omega (arith, n)
 
 pub loop-from-preserved : goal.loop-from-preserved
@@ -106,11 +102,11 @@ loop-from-preserved c =
     let l = c.loop-from in
     let i = l.invariant.0 in
     let d =
-        piece_in c.args.chunk.now c.rest-left.result.now c.loop-from.from c.leading_of-n.result c.rest-left.ensures c.leading_of-n.ensures
-        c.loop-from.invariant.0.place in
+    piece_in c.args.chunk.now c.rest-left.result.now c.loop-from.from c.leading_of-n.result c.rest-left.ensures c.leading_of-n.ensures
+    c.loop-from.invariant.0.place in
     let n =
-        next_in c.args.chunk.now c.rest-left.result.now c.loop-from.from c.leading_of-n.result (length c.loop-from.into - c.loop-from.p.at) d
-        (goes _ _ _ _ d.size c.room.ensures c.if-stops.false) in
+    next_in c.args.chunk.now c.rest-left.result.now c.loop-from.from c.leading_of-n.result (length c.loop-from.into - c.loop-from.p.at) d
+    (goes _ _ _ _ d.size c.room.ensures c.if-stops.false) in
     let f = c.end_line-p in
     let a = c.args in
     let ee = f.new.eeprom in
@@ -131,7 +127,7 @@ loop-from-preserved c =
         place = omega arith;
       },
       w.0,
-      turn-line _ _ _ l.from _ _ _ (short l.line l.begun i.head) l.invariant.2
+      turn_line _ _ _ l.from _ _ _ (short l.line l.begun i.head) l.invariant.2
           _ c.rest-left.ensures _ c.leading_of-n.ensures _
           c.first-piece.ensures n.less n.free (setup_in (held_by f.result ee id)) (buffer into f.result.at) w.1
           (shown_written h o z f.ensures),

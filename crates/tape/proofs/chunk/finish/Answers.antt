@@ -7,7 +7,6 @@ use Prim.Native.Nat.{◌-◌}
 use lib.Dec.{leb}
 use lib.ListN.{length}
 use borrow.Author.Tests.{leb-true, not-true, not-false}
-use borrow.Author.Rules.{rules}
 use Rattle.base.proofs.Tests.{yes, no, both_true}
 use Rattle.lines.specs.Print.{answer_room}
 use Rattle.tape.specs.Tape.{Loan, loan, is_tape, finish_into}

@@ -6,7 +6,6 @@ use mathlib.Core.List.{List, []}
 use Prim.Native.Nat.{ℕ}
 use lib.ListN.{length, take}
 use lib.Seq.{length-take-le}
-use borrow.Author.Rules.{rules}
 use Rattle.text.specs.Buffer.{buffer}
 use Rattle.answers.specs.Answer.{held_by, setup_in, line_answer, shown_in}
 use Rattle.answers.proofs.AnswerLaws.{shown_held, shown_written}

@@ -1,6 +1,5 @@
 -- `tape::chunk::is_tape`: the four lengths, and the record's readiness.
 -- Assumes nothing.
-use borrow.Author.Rules.{rules}
 use Rattle.tape.specs.Tape.{buffers_fit}
 use Rattle.tape.proofs.chunk.is_tape.Goals as goal
 

@@ -6,12 +6,11 @@ use mathlib.Core.List.{List}
 use Prim.Native.Nat.{ℕ}
 use lib.Dec.{eqb}
 use lib.ListN.{length}
-use borrow.Author.Rules.{rules}
 use Rattle.base.proofs.Tests.{yes, no}
 use Rattle.record.specs.declared.Device.{Device}
 use Rattle.record.specs.Part.{id_size}
 use Rattle.answers.specs.Answer.{ready, eeprom_room}
-use Rattle.tape.specs.Tape.{resumes, start_tape, Typed}
+use Rattle.tape.specs.Tape.{resumes, start_tape}
 use Rattle.tape.proofs.chunk.resume.Goals as goal
 
 -- the code's test is the definition's

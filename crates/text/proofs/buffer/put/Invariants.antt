@@ -1,12 +1,9 @@
 -- `text::buffer::put`: so far the bytes passed have been put.
 -- Assumes nothing.
-use mathlib.Core.List.{List}
-use native.Mathlib.Omega.{arith}
-use mathlib.Core.Path.{◌≡◌, refl, ap, ◌∙◌}
-use Prim.Native.Nat.{ℕ, ◌+◌, ◌≤◌, ◌-◌}
-use lib.ListN.{length, get_or, take, set, length-set}
+use mathlib.Core.Path.{◌≡◌}
+use Prim.Native.Nat.{◌≤◌, ◌-◌}
+use lib.ListN.{length, take}
 use lib.Seq.{sets}
-use Rattle.text.proofs.BufferLaws.{sets_more, append_all}
 use Rattle.text.proofs.buffer.put.Given as goal
 
 abbrev pub invariant-loop-i : goal.invariant-loop-i

@@ -1,7 +1,6 @@
 -- `text::buffer::put_byte`: a store, and the place after it.
 -- Assumes nothing.
 use Rattle.text.proofs.BufferLaws.{append_byte}
-use borrow.Author.Rules.{rules}
 use Rattle.text.proofs.buffer.put_byte.Goals as goal
 
 pub returns : goal.returns

@@ -2,10 +2,7 @@
 -- Assumes nothing.
 use borrow.Author.Tests.{not-true, not-false}
 use native.Mathlib.Omega.{arith}
-use mathlib.Core.Path.{◌≡◌, sym, ◌∙◌}
-use Prim.Native.Nat.{◌+◌, ◌≤◌, ◌-◌}
-use lib.ListN.{length, drop}
-use Rattle.text.specs.Bytes.{agreed}
+use mathlib.Core.Path.{sym, ◌∙◌}
 use Rattle.text.proofs.BytesLaws.{agreed_more, agreed_stops, agreed_short, agreed_whole}
 use Rattle.text.proofs.bytes.agreement.Goals as goal
 

@@ -1,12 +1,9 @@
 -- `text::bytes::agreement`: the bytes passed and those that agree in what is left are those that agree.
 -- Assumes nothing.
-use borrow.Author.Tests.{not-true, not-false}
-use native.Mathlib.Omega.{arith}
-use mathlib.Core.Path.{◌≡◌, sym, ◌∙◌}
+use mathlib.Core.Path.{◌≡◌}
 use Prim.Native.Nat.{◌+◌, ◌≤◌, ◌-◌}
 use lib.ListN.{length, drop}
 use Rattle.text.specs.Bytes.{agreed}
-use Rattle.text.proofs.BytesLaws.{agreed_more, agreed_stops, agreed_short, agreed_whole}
 use Rattle.text.proofs.bytes.agreement.Given as goal
 
 abbrev pub invariant-loop-i : goal.invariant-loop-i

@@ -1,6 +1,5 @@
 -- `text::bytes::is_word_lem`: as long as the word, and in agreement with the whole of it.
 -- Assumes nothing.
-use borrow.Author.Rules.{rules}
 use borrow.Author.Tests.{eq-eqb, ne_eqb}
 use Rattle.text.proofs.bytes.is_word.Goals as goal
 

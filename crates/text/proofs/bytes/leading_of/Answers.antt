@@ -2,11 +2,8 @@
 -- Assumes nothing.
 use borrow.Author.Tests.{not-true, not-false}
 use native.Mathlib.Omega.{arith}
-use mathlib.Core.Path.{◌≡◌, sym, ◌∙◌}
-use Prim.Native.Nat.{◌+◌, ◌≤◌, ◌-◌}
-use lib.ListN.{length, drop}
-use borrow.Author.Rules.{rules}
-use Rattle.text.specs.Bytes.{leading, of_kind}
+use mathlib.Core.Path.{sym, ◌∙◌}
+use Rattle.text.specs.Bytes.{of_kind}
 use Rattle.text.proofs.BytesLaws.{leading_more, leading_stops, leading_whole}
 use Rattle.text.proofs.bytes.leading_of.Goals as goal
 

@@ -1,13 +1,9 @@
 -- `text::bytes::leading_of`: those passed and those that lead what is left are those that lead.
 -- Assumes nothing.
-use borrow.Author.Tests.{not-true, not-false}
-use native.Mathlib.Omega.{arith}
-use mathlib.Core.Path.{◌≡◌, sym, ◌∙◌}
+use mathlib.Core.Path.{◌≡◌}
 use Prim.Native.Nat.{◌+◌, ◌≤◌, ◌-◌}
 use lib.ListN.{length, drop}
-use borrow.Author.Rules.{rules}
 use Rattle.text.specs.Bytes.{leading, of_kind}
-use Rattle.text.proofs.BytesLaws.{leading_more, leading_stops, leading_whole}
 use Rattle.text.proofs.bytes.leading_of.Given as goal
 
 abbrev pub invariant-loop-i : goal.invariant-loop-i

@@ -1,6 +1,6 @@
 -- The number's tenth is put first, then its last digit.
 -- Assumes nothing.
-use Rattle.std.proofs.Common.{ℕ, ◌+◌, ◌/◌, ◌%◌, ◌∷◌, [], sym, ap, ◌∙◌, arith}
+use Rattle.std.proofs.Common.{◌/◌, ◌%◌, ◌∷◌, [], sym, ap, ◌∙◌, arith}
 use Rattle.text.specs.Buffer.{buffer, append}
 use Rattle.text.specs.Decimal.{digit_text, decimal_text}
 use Rattle.text.proofs.BufferLaws.{put_then, room_then, room_before}

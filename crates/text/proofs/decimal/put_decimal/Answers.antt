@@ -2,7 +2,6 @@
 -- Assumes nothing.
 use mathlib.Core.Path.{sym, ap, ◌∙◌}
 use native.Mathlib.Omega.{arith}
-use borrow.Author.Rules.{rules}
 use Rattle.text.specs.Buffer.{buffer, append}
 use Rattle.text.proofs.DecimalLaws.{decimal_small, decimal_some}
 use Rattle.text.proofs.decimal.put_decimal.Goals as goal

@@ -1,12 +1,10 @@
 -- `text::decimal::value_of`: what is left of the digits that are read gives the same value.
 -- Assumes nothing.
-use borrow.Author.Rules.{rules}
 use native.Mathlib.Omega.{arith}
-use mathlib.Core.Path.{◌≡◌, refl, sym, ap, ◌∙◌}
-use Prim.Native.Nat.{◌≤◌, ◌<◌, ◌-◌}
-use lib.ListN.{length, drop, length-take}
-use Rattle.text.specs.Decimal.{read_limit, value_from, value_of}
-use Rattle.text.proofs.DecimalLaws.{value_more, value_end, bound, bound_none, bound_more, bound_small}
+use mathlib.Core.Path.{refl, sym, ap, ◌∙◌}
+use lib.ListN.{length, length-take}
+use Rattle.text.specs.Decimal.{read_limit, value_of}
+use Rattle.text.proofs.DecimalLaws.{value_more, value_end, bound_none, bound_more, bound_small}
 use Rattle.text.proofs.decimal.value_of.Goals as goal
 
 pub loop-i-init : goal.loop-i-init

@@ -1,12 +1,10 @@
 -- `text::decimal::value_of`: what is left of the digits that are read gives the same value.
 -- Assumes nothing.
-use borrow.Author.Rules.{rules}
-use native.Mathlib.Omega.{arith}
-use mathlib.Core.Path.{◌≡◌, refl, sym, ap, ◌∙◌}
+use mathlib.Core.Path.{◌≡◌}
 use Prim.Native.Nat.{◌≤◌, ◌<◌, ◌-◌}
-use lib.ListN.{length, drop, length-take}
+use lib.ListN.{length, drop}
 use Rattle.text.specs.Decimal.{read_limit, value_from, value_of}
-use Rattle.text.proofs.DecimalLaws.{value_more, value_end, bound, bound_none, bound_more, bound_small}
+use Rattle.text.proofs.DecimalLaws.{bound}
 use Rattle.text.proofs.decimal.value_of.Given as goal
 
 abbrev pub invariant-loop-i : goal.invariant-loop-i

@@ -2,7 +2,6 @@
 -- Assumes nothing.
 use borrow.Author.Tests.{eq-eqb, ne_eqb}
 use Rattle.ticks.specs.Alarm.{alarm_match}
-use borrow.Author.Rules.{rules}
 use Rattle.ticks.proofs.alarm.alarm_match.Goals as goal
 
 pub returns-then-code-eq0 : goal.returns-then-code-eq0

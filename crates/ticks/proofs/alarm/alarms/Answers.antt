@@ -1,7 +1,6 @@
 -- `ticks::alarm::alarms`: both alarms judged first, then flag 0 and flag 1 raised in turn: four promises.
 -- Assumes nothing.
 use Rattle.ticks.specs.Alarm.{alarmed}
-use borrow.Author.Rules.{rules}
 use Rattle.ticks.proofs.alarm.alarms.Goals as goal
 
 pub returns : goal.returns

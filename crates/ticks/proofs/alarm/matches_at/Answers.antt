@@ -2,7 +2,6 @@
 -- Assumes nothing.
 use mathlib.Core.Path.{refl}
 use Rattle.ticks.specs.Alarm.{matches_at}
-use borrow.Author.Rules.{rules}
 use Rattle.ticks.proofs.alarm.matches_at.Goals as goal
 
 pub returns : goal.returns

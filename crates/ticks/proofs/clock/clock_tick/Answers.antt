@@ -4,7 +4,6 @@ use mathlib.Core.Path.{ap, ◌∙◌}
 use mathlib.Core.Bool.{Bool}
 use Rattle.ticks.specs.Clock.{divider_tick, calendar_tick}
 use Rattle.ticks.proofs.ClockLaws.{clock_still}
-use borrow.Author.Rules.{rules}
 use Rattle.ticks.proofs.clock.clock_tick.Goals as goal
 
 pub returns-then-due : goal.returns-then-due

@@ -2,7 +2,6 @@
 -- Assumes nothing.
 use mathlib.Core.Path.{refl}
 use Rattle.ticks.specs.Clock.{with_time}
-use borrow.Author.Rules.{rules}
 use Rattle.ticks.proofs.clock.with_time.Goals as goal
 
 pub returns : goal.returns

@@ -1,7 +1,6 @@
 -- `ticks::event::event_tick`: out of the record, a tick, and back: three promises.
 -- Assumes nothing.
 use Rattle.ticks.specs.Event.{event_tick}
-use borrow.Author.Rules.{rules}
 use Rattle.ticks.proofs.event.event_tick.Goals as goal
 
 pub returns : goal.returns

@@ -1,7 +1,6 @@
 -- `ticks::lines::lines_changed`: both lines, the events' flags and WIP before and after: seven promises.
 -- Assumes nothing.
 use Rattle.ticks.specs.Lines.{changed}
-use borrow.Author.Rules.{rules}
 use Rattle.ticks.proofs.lines.lines_changed.Goals as goal
 
 pub returns : goal.returns

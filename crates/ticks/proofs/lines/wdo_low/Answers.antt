@@ -2,7 +2,6 @@
 -- Assumes nothing.
 use mathlib.Core.Path.{refl}
 use Rattle.ticks.specs.Lines.{wdo_low}
-use borrow.Author.Rules.{rules}
 use Rattle.ticks.proofs.lines.wdo_low.Goals as goal
 
 pub returns : goal.returns

@@ -6,7 +6,6 @@ use lib.Dec.{ltb}
 use Rattle.base.proofs.Tests.{both_right}
 use Rattle.record.specs.Registers.{startup_ticks}
 use Rattle.ticks.specs.Oscillator.{asked, oscillator_tick}
-use borrow.Author.Rules.{rules}
 use Rattle.ticks.proofs.oscillator.oscillator_tick.Goals as goal
 
 pub overflow_add-startup : goal.overflow_add-startup

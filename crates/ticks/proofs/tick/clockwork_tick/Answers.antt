@@ -1,7 +1,6 @@
 -- `ticks::tick::clockwork_tick`: oscillator, watchdog, event inputs and clock in this order, each on what the one before left.
 -- Assumes nothing.
 use Rattle.ticks.specs.Tick.{clockwork}
-use borrow.Author.Rules.{rules}
 use Rattle.ticks.proofs.tick.clockwork_tick.Goals as goal
 
 pub returns : goal.returns

@@ -2,7 +2,6 @@
 -- Assumes nothing.
 use borrow.Author.Tests.{eq-eqb, ne_eqb}
 use Rattle.ticks.specs.Tick.{cycle_device}
-use borrow.Author.Rules.{rules}
 use Rattle.ticks.proofs.tick.cycle_tick.Goals as goal
 
 pub returns-then-left-eq0 : goal.returns-then-left-eq0

@@ -1,7 +1,6 @@
 -- `ticks::tick::device_tick`: by whether the chip is alive: the cycle's tick, and the clockwork's on what it left.
 -- Assumes nothing.
 use Rattle.ticks.specs.RecordTick.{device_tick}
-use borrow.Author.Rules.{rules}
 use Rattle.ticks.proofs.tick.device_tick.Goals as goal
 
 pub returns-then-alive : goal.returns-then-alive

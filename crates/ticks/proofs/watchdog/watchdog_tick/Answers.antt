@@ -1,7 +1,6 @@
 -- `ticks::watchdog::watchdog_tick`: the pulse first, then the count where it counts, each by its promise.
 -- Assumes nothing.
 use Rattle.ticks.specs.Watchdog.{watchdog_tick}
-use borrow.Author.Rules.{rules}
 use Rattle.ticks.proofs.watchdog.watchdog_tick.Goals as goal
 
 pub returns-then-counts : goal.returns-then-counts

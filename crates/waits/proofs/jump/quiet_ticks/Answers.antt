@@ -1,6 +1,5 @@
 -- `waits::jump::quiet_ticks`: the limits join in a law over plain numbers (`quiet_parts`).
 -- Assumes nothing.
-use borrow.Author.Rules.{rules}
 use Rattle.waits.specs.Jump.{quiet_ticks}
 use Rattle.waits.proofs.TurnLaws.{quiet_parts}
 use Rattle.waits.proofs.jump.quiet_ticks.Goals as goal

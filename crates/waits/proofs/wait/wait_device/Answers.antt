@@ -1,17 +1,11 @@
 -- `waits::wait::wait_device`: the wait from the start is the ticks passed and the wait from here, where a turn
 -- passes over ticks in which only counts move, or is one tick.
 -- Assumes nothing.
-use mathlib.Core.Path.{◌≡◌, sym, ◌∙◌}
-use mathlib.Core.Bool.{true}
-use Prim.Native.Nat.{◌≤◌}
+use mathlib.Core.Path.{sym, ◌∙◌}
 use native.Mathlib.Omega.{arith}
-use borrow.Author.Rules.{rules}
 use borrow.Author.Tests.{not-true, not-false}
-use Rattle.ticks.specs.Tick.{alive}
 use Rattle.ticks.proofs.TickLaws.{device_alive}
-use Rattle.ticks.specs.Lines.{changed}
-use Rattle.ticks.specs.RecordTick.{device_tick}
-use Rattle.base.proofs.WaitLaws.{WaitFrom, loop_starts, loop_goes, loop_stops, loop_ends, loop_jumps}
+use Rattle.base.proofs.WaitLaws.{loop_starts, loop_goes, loop_stops, loop_ends, loop_jumps}
 use Rattle.waits.proofs.JumpLaws.{wait_passes}
 use Rattle.waits.proofs.TurnLaws.{quiet_got, quiet_within, jumped_alive, device_wait_dead}
 use Rattle.waits.proofs.wait.wait_device.Goals as goal
