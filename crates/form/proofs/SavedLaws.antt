@@ -302,7 +302,7 @@ sound_suited part w s =
 saved_there :
     (part : ℕ) (w : World) (room : List ℕ) → Sound part w → length (saved_text part w) ≤ length room → saves part w room ≡ written (saved_text part w) room
 unfolding saves
-saved_there part w room s h = rw (sound_suited part w s, le-ltb (length room) (length (saved_text part w)) h)
+saved_there part w room s h = simp (sound_suited part w s) (grind (arith, h))
 
 cramped : (part : ℕ) (w : World) (room : List ℕ) → Sound part w → length room < length (saved_text part w) → saves part w room ≡ not_saved 8 room
 unfolding saves

@@ -79,7 +79,7 @@ power_told Byte d e = byte_off (not-true d.power e)
 power_told End d e = end_off (not-true d.power e)
 power_told Wait d e = absurd (false≢true e)
 power_told Cut d e = cut_off (not-true d.power e)
-power_told Up d e = up_on e
+power_told Up d e = up_on (grind (arith, e))
 power_told (Set p) d e = absurd (false≢true e)
 
 power_given : {act : Act} {d : Device} → PowerRow act d → wrong_power act d.power ≡ true
