@@ -140,9 +140,8 @@ pub fn run_from(
     perform_all(part, device, codes, args, answers, used, eeprom, id)
 }
 
-// `run` for a caller in another language, to whom each slice is a pointer and a length: how many acts were performed.
-#[unsafe(no_mangle)]
-pub extern "C" fn tekuravy_run(
+// `run` for a caller in another language, which calls it by `batch_c`: how many acts were performed.
+pub fn tekuravy_run(
     part: u64,
     codes: &[u8],
     args: &[u64],

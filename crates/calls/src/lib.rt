@@ -1,6 +1,6 @@
 #![tactic(auto)]
 
-// An act for a caller in another language, on arrays that are the caller's own. A slice is a pointer and a length to it, an array of a fixed length a pointer.
+// An act for a caller in another language, on arrays that are the caller's own. C calls it by `calls_c`.
 ghost use Rattle.std.specs.Prelude.{◌≡◌};
 ghost use Rattle.arrays.specs.Arrays.{arrays};
 ghost use Rattle.calls.specs.Calls.{called, acts};
@@ -10,8 +10,7 @@ use record::Reply;
 const ANSWER: usize = arrays::ANSWER;
 
 // One act by its number, with its argument. The answer: the refusal number, whether SO drives, what it drives, the count, both levels.
-#[unsafe(no_mangle)]
-pub extern "C" fn mcp795_act(
+pub fn mcp795_act(
     state: &mut [u8],
     eeprom: &mut [u8],
     id: &mut [u8],

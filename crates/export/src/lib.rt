@@ -1,7 +1,6 @@
 #![tactic(auto)]
 
-// The chip for a caller in another language, but its acts, which are in `calls`: a fresh chip, its text, and a chip from text. A slice is a pointer and
-// a length to it, an array of a fixed length a pointer.
+// The chip for a caller in another language, but its acts, which are in `calls`: a fresh chip, its text, and a chip from text. C calls it by `export_c`.
 ghost use Rattle.std.specs.Prelude.{◌≡◌, []};
 ghost use Rattle.arrays.specs.Arrays.{arrays};
 ghost use Rattle.calls.specs.Calls.{called, newly, wrote, saves_state, loads_state};
@@ -10,8 +9,7 @@ const STATE: usize = arrays::STATE;
 
 // A fresh chip of a part. Refused by 3 for a part that is none, by 4 for a memory of another length, by 6 for a state array of another length; then nothing
 // changes.
-#[unsafe(no_mangle)]
-pub extern "C" fn mcp795_new(part: u64, state: &mut [u8], eeprom: &mut [u8], id: &mut [u8]) -> u64
+pub fn mcp795_new(part: u64, state: &mut [u8], eeprom: &mut [u8], id: &mut [u8]) -> u64
     ensures { called result [] (arrays state.new eeprom.new id.new) ≡ newly part (arrays state.old eeprom.old id.old) }
 {
     let refused = arrays::refusal(part, eeprom.len(), id.len(), state.len() == STATE);
@@ -26,8 +24,7 @@ pub extern "C" fn mcp795_new(part: u64, state: &mut [u8], eeprom: &mut [u8], id:
 }
 
 // The text of a chip, put into the room lent; its length. Refused as an act is, and by 8 where there is too little room; then the length is 0.
-#[unsafe(no_mangle)]
-pub extern "C" fn mcp795_save(
+pub fn mcp795_save(
     state: &[u8],
     eeprom: &[u8],
     id: &[u8],
@@ -49,8 +46,7 @@ pub extern "C" fn mcp795_save(
 }
 
 // The chip of a text. Refused by 6 for a state array of another length, by 8 with the first bad line, by 4 for a memory of another length; then nothing changes.
-#[unsafe(no_mangle)]
-pub extern "C" fn mcp795_load(
+pub fn mcp795_load(
     text: &[u8],
     state: &mut [u8],
     eeprom: &mut [u8],

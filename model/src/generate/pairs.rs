@@ -72,7 +72,7 @@ fn another_number(random: &mut Random, text: &[u8]) -> Option<Vec<u8>> {
         let (byte, any) = (u64::from(random.byte()), random.below(limit));
         let new = random.pick(&[0, 1, old + 1, old.saturating_sub(1), byte, any]);
         line.numbers[place] = new.to_string().into_bytes();
-        let text = [&lines[..at].concat(), &line.bytes(), &lines[at + 1..].concat()].concat();
+        let text = [lines[..at].concat(), line.bytes(), lines[at + 1..].concat()].concat();
         if new != old && saved::read(&text).is_ok() {
             return Some(text);
         }
