@@ -11,7 +11,7 @@ use Rattle.record.specs.Stages.{foreign_to_wip}
 use Rattle.form.specs.Table.{startup_by, mark_by, kind_by, case_good, value_limit, target_limit, left_by, edges_by, since_by, debounce_by}
 use Rattle.form.specs.State.{count_at}
 
--- register j, below the time_stamps_lem, has no bit outside its mask
+-- register j, below the time-stamps, has no bit outside its mask
 abbrev pub is_kept_at : List ℕ → ℕ → Bool
 is_kept_at bs j = eqb (bit_and (get_or bs (1 + j) 0) (get_or writable j 0)) (get_or bs (1 + j) 0)
 

@@ -1,5 +1,5 @@
 -- The three demands and the requests, proved by citing: the table's theorem and those of a tape's lines, the functions' proofs, demand 3 from fresh and from
--- any beginning, the law of every feeding, the promises of the time_stamps_lem, the latch and the leftover bits, the claim of the saved form, the laws of a tape
+-- any beginning, the law of every feeding, the promises of the time-stamps, the latch and the leftover bits, the claim of the saved form, the laws of a tape
 -- that begins with a chip, and those of the event inputs.
 -- Assumes nothing.
 use mathlib.Core.Path.{sym, ◌∙◌}

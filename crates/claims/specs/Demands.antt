@@ -119,7 +119,7 @@ pub record Demands : Type 2 where
   pub total : Total
   pub exact : Exact
   pub accountable : Accountable
-  -- the time_stamps_lem of a power failure
+  -- the time-stamps of a power failure
   pub time_stamps : TimeStamps
   -- what sets the latch, and the whole list of what resets it
   pub latch : Latch

@@ -48,7 +48,7 @@ unfoldable pub driven_all : List ℕ → List Reply
 driven_all [] = []
 driven_all (b ∷ bs) = Driven b ∷ driven_all bs
 
--- a chip that holds something everywhere but in the time_stamps_lem, with ST and VBATEN set and OSCON on
+-- a chip that holds something everywhere but in the time-stamps, with ST and VBATEN set and OSCON on
 abbrev pub busy_regs : List ℕ
 busy_regs =
     0x12 ∷ 0xb4 ∷ 0x56 ∷ 0x98 ∷ 0x0a ∷ 0x21 ∷ 0x09 ∷ 0x25 ∷ 0xc7 ∷ 0x33 ∷ 0xa5 ∷ 0x44 ∷ 0x01 ∷ 0x02 ∷ 0x03 ∷ 0x74

@@ -1,4 +1,4 @@
--- Closed witnesses of the time_stamps_lem, on records that are written out, through `performed`: the numbers worked by hand from the paper and
+-- Closed witnesses of the time-stamps, on records that are written out, through `performed`: the numbers worked by hand from the paper and
 -- the sheet's map.
 -- Assumes nothing.
 use Rattle.std.specs.Prelude.{ℕ, ◌≡◌, refl, Bool, true, false, List, [], ◌∷◌, ◌++◌, get_or, set, drop, replicate}
@@ -39,7 +39,7 @@ use Rattle.run.specs.Script.{does, sent, frame_of}
 use Rattle.edges.specs.Scene.{after, bytes_answered, after_bytes, replies, lent, scene}
 use Rattle.edges.specs.Acts.{driven_all, busy_regs, busy}
 
--- the time registers, 08h to 17h at 0, and the eight of the time_stamps_lem
+-- the time registers, 08h to 17h at 0, and the eight of the time-stamps
 abbrev regs_of : List ℕ → List ℕ → List ℕ
 regs_of time stamps = time ++ replicate 16 0 ++ stamps
 
@@ -124,7 +124,7 @@ StampsShown =
     × ((performed 1 Cut 0 failed_before).after.device.regs ≡ set (set busy_regs 0x04 0x1a) 0x0a 0x25)
     × ((performed 1 Cut 0 failed_before).after.device.sram ≡ replicate 64 7)
     × ((performed 1 Cut 0 failed_before).after.device.counters ≡ counts 5 32 0 0 0)
-    -- A1, P7, P9, P13, P15. a power failure without a tick, whole: nothing but 0Ah, the watchdog's counts, VBAT and both time_stamps_lem changes
+    -- A1, P7, P9, P13, P15. a power failure without a tick, whole: nothing but 0Ah, the watchdog's counts, VBAT and both time-stamps changes
     × (after 1 (outage 0) busy ≡ scene stamped_twice (counts 5 32 0 0 0))
     -- P13, P15. from a fresh chip: New Year's Eve is written with ST and VBATEN, the oscillator starts, and power is off for a hundredth of a second
     × (day_and_stamps (after 1 (frame_of (0x12 ∷ 0x00 ∷ eve 0x0f) ++ (does Wait 32 ∷ outage 328)) (fresh_world 1))

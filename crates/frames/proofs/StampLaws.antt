@@ -1,4 +1,4 @@
--- What a byte does to the time_stamps_lem and to VBAT: in a WRITE that stands at 04h a 0 for VBAT clears all three and a 1 leaves VBAT what it was; any
+-- What a byte does to the time-stamps and to VBAT: in a WRITE that stands at 04h a 0 for VBAT clears all three and a 1 leaves VBAT what it was; any
 -- other byte leaves all three.
 -- Assumes nothing.
 use mathlib.Core.Path.{◌≡◌, refl, ap, ◌∙◌}

@@ -1,4 +1,4 @@
--- What a cut and an up do to the time_stamps_lem, VBAT and the mark, in each of their cases. Where something is copied there are 32 registers.
+-- What a cut and an up do to the time-stamps, VBAT and the mark, in each of their cases. Where something is copied there are 32 registers.
 -- Assumes nothing.
 use Prim.Native.Nat.{ℕ, ◌<◌, ◌≤◌}
 use native.Mathlib.Omega.{arith}
@@ -61,7 +61,7 @@ cut_stamps mask d t f l =
       mark = cut_mark_lem mask d ∙ u;
     }
 
--- P14. A cut that finds VBATEN and VBAT set leaves both time_stamps_lem, and no mark.
+-- P14. A cut that finds VBATEN and VBAT set leaves both time-stamps, and no mark.
 pub record Held (d e : Device) : Type 0 where
   pub stamps : SameStamps d.regs e.regs
   pub vbat : vbat e.regs ≡ true
@@ -79,7 +79,7 @@ cut_held mask d t v =
       mark = cut_mark_lem mask d ∙ u;
     }
 
--- P14. One that finds VBATEN clear leaves both time_stamps_lem 0, VBAT clear and no mark.
+-- P14. One that finds VBATEN clear leaves both time-stamps 0, VBAT clear and no mark.
 pub record Lost (e : Device) : Type 0 where
   pub stamps : NoStamps e.regs
   pub vbat : vbat e.regs ≡ false

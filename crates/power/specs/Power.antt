@@ -1,4 +1,4 @@
--- A power cut, and power up, with their time_stamps_lem. What a cut cycle stores, and how many bytes that is, are in Stored, what a
+-- A power cut, and power up, with their time-stamps. What a cut cycle stores, and how many bytes that is, are in Stored, what a
 -- time-stamp holds in Stamps.
 -- Assumes nothing.
 use Rattle.std.specs.Prelude.{ℕ, ◌%◌, Bool, true, false, not, ◌&&◌, List, eqb, get_or, set}

@@ -1,4 +1,4 @@
--- Laws of the time_stamps_lem as registers: their masks, VBAT, what a copied one shows, what it and the clearing leave alone, and that both leave as many
+-- Laws of the time-stamps as registers: their masks, VBAT, what a copied one shows, what it and the clearing leave alone, and that both leave as many
 -- registers.
 -- Assumes nothing.
 use Prim.Native.Nat.{ℕ, zero, suc, ◌+◌, ◌/◌, ◌%◌, ◌<◌, ◌≤◌}
@@ -20,7 +20,7 @@ use Rattle.base.proofs.Tests.{by_cases}
 use Rattle.record.specs.Registers.{vbat, minutes_at, day_at, date_at, power_down_at, power_up_at, writable, kept}
 use Rattle.record.specs.Stamps.{stamp_at, stamp_hours, stamp_month, stamped, unstamped, with_vbat, without_vbat, NoStamps, Shows}
 
--- The bits that a register may hold: below the time_stamps_lem those that a WRITE may change, of a time-stamp all.
+-- The bits that a register may hold: below the time-stamps those that a WRITE may change, of a time-stamp all.
 pub same_masks : (k : ℕ) → k < power_down_at → get_or writable k 0 ≡ get_or kept k 0
 unfolding every
 same_masks k h = same_below (λ (n : ℕ). get_or writable n 0) (λ (n : ℕ). get_or kept n 0) power_down_at refl k h

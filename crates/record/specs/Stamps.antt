@@ -23,7 +23,7 @@ stamp_month regs = get_or regs month_at 0 % 32 + get_or regs day_at 0 % 8 * 32
 unfoldable pub stamped : ℕ → List ℕ → List ℕ
 stamped a regs = stamp_at a (get_or regs minutes_at 0) (stamp_hours regs) (get_or regs date_at 0) (stamp_month regs) regs
 
--- P16. both time_stamps_lem 0
+-- P16. both time-stamps 0
 unfoldable pub unstamped : List ℕ → List ℕ
 unstamped regs = stamp_at power_up_at 0 0 0 0 (stamp_at power_down_at 0 0 0 0 regs)
 
@@ -38,11 +38,11 @@ without_vbat regs = set regs day_at (bit_and (get_or regs day_at 0) 0xef)
 abbrev pub to_day : Stage
 to_day = Writing (ClockAt (record { 0 = day_at }))
 
--- P14, P16. both time_stamps_lem are 0
+-- P14, P16. both time-stamps are 0
 abbrev pub NoStamps : List ℕ → Type 0
 NoStamps regs = (k : ℕ) → power_down_at ≤ k → k < 32 → get_or regs k 0 ≡ 0
 
--- P17. the registers of both time_stamps_lem are the same
+-- P17. the registers of both time-stamps are the same
 abbrev pub SameStamps : List ℕ → List ℕ → Type 0
 SameStamps regs regs' = (k : ℕ) → power_down_at ≤ k → get_or regs' k 0 ≡ get_or regs k 0
 

@@ -15,7 +15,7 @@ pub mod number; // number.rt: the numbers of the enums' cases
 pub mod part; // part.rt: the four parts
 pub mod registers; // registers.rt: the registers' addresses and masks, the limits
 pub mod stages; // stages.rt: what a stage and a cycle's target tell
-pub mod stamps; // stamps.rt: the time_stamps_lem of a power failure
+pub mod stamps; // stamps.rt: the time-stamps of a power failure
 
 // An address of the EEPROM.
 #[derive(Clone, Copy)]

@@ -1,4 +1,4 @@
-// The time_stamps_lem of a power failure, as registers.
+// The time-stamps of a power failure, as registers.
 ghost use Rattle.std.specs.Prelude.{◌≡◌, ◌<◌};
 ghost use Rattle.record.specs.Stamps.{stamp_at, stamped, unstamped};
 
@@ -43,7 +43,7 @@ pub fn stamped_at(at: ClockAddress, regs: [u8; 32]) -> [u8; 32]
     stamp_at(at, s, regs)
 }
 
-// Both time_stamps_lem are cleared.
+// Both time-stamps are cleared.
 pub fn unstamped(regs: [u8; 32]) -> [u8; 32]
     ensures { result ≡ unstamped regs }
 {

@@ -1,4 +1,4 @@
--- READ answers a time-stamp as it is stored. What WRITE does to the time_stamps_lem and to VBAT: a 0 for VBAT clears all three, and nothing else changes a
+-- READ answers a time-stamp as it is stored. What WRITE does to the time-stamps and to VBAT: a 0 for VBAT clears all three, and nothing else changes a
 -- time-stamp; a 1 leaves VBAT what it was, and no other register has to do with it.
 -- Assumes nothing.
 use mathlib.Core.Path.{◌≡◌, refl, sym, ap, subst, ◌∙◌}

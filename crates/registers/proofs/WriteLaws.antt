@@ -52,7 +52,7 @@ write_beside boots d a v =
     (pick_case (Beside d) (eqb a.0 event_at) (beside d) (beside d)))))
     (λ k. beside d) (beside d)
 
--- what follows from a write is a matter of counts and, at 04h, of VBAT and the time_stamps_lem: no SRAM byte changes, and of other registers none
+-- what follows from a write is a matter of counts and, at 04h, of VBAT and the time-stamps: no SRAM byte changes, and of other registers none
 pub after_case :
     (P : List ℕ → Type 0) (boots before : Bool) (a : ℕ) (d : Device) → P d.regs → (a ≡ day_at → P (day_written before d.regs))
     → P (after_write boots before a d).regs × ((after_write boots before a d).sram ≡ d.sram)

@@ -17,7 +17,7 @@ read_at d a = read_clock d (record { 0 = a })
 abbrev wrote_all : ℕ → ℕ
 wrote_all a = get_or (write_clock false (chip started (counts 0 0 0 0 0)) (record { 0 = a }) 0xff).regs a 0
 
--- a register after a byte is written to another, where VBAT is set and both time_stamps_lem hold something
+-- a register after a byte is written to another, where VBAT is set and both time-stamps hold something
 abbrev stamped_regs : List ℕ
 stamped_regs = set (set (set started 0x04 0x1a) 0x18 0x59) 0x1f 0xa5
 
@@ -36,9 +36,9 @@ BlockShown =
     (wrote_all 0x02 ≡ 0x7f) × (wrote_all 0x04 ≡ 0x0f) × (wrote_all 0x06 ≡ 0x1f) × (wrote_all 0x0e ≡ 0x3f) × (wrote_all 0x18 ≡ 0x00)
     -- F12, C5. what the mask leaves out keeps its value: a time-stamp, whatever is written
     × (wrote_over 0x18 0x00 0x18 ≡ 0x59) × (wrote_over 0x1f 0xff 0x1f ≡ 0xa5)
-    -- P16. VBAT written 0: the bit and both time_stamps_lem; the other bits are stored
+    -- P16. VBAT written 0: the bit and both time-stamps; the other bits are stored
     × (wrote_over 0x04 0x0b 0x04 ≡ 0x0b) × (wrote_over 0x04 0x0b 0x18 ≡ 0x00) × (wrote_over 0x04 0x0b 0x1f ≡ 0x00)
-    -- P16. VBAT written 1: it stays, set here and clear above (F13); the time_stamps_lem too
+    -- P16. VBAT written 1: it stays, set here and clear above (F13); the time-stamps too
     × (wrote_over 0x04 0x15 0x04 ≡ 0x15) × (wrote_over 0x04 0x15 0x18 ≡ 0x59) × (wrote_over 0x04 0x15 0x1f ≡ 0xa5)
     -- P16. a 0 in bit 4 of another register means nothing
     × (wrote_over 0x05 0x01 0x18 ≡ 0x59) × (wrote_over 0x05 0x01 0x04 ≡ 0x1a)

@@ -15,14 +15,14 @@ use Rattle.record.specs.Setters.{with_regs, with_sram, with_startup, with_watchd
 abbrev pub delay_after : ℕ → ℕ
 delay_after v = pick ((wdten v && wddel v) && not (wdtif v)) delay_ticks 0
 
--- P16. The registers after a write of 04h, where VBAT was set before it or not: VBAT written 0 is clear, and both time_stamps_lem are; VBAT written 1
+-- P16. The registers after a write of 04h, where VBAT was set before it or not: VBAT written 0 is clear, and both time-stamps are; VBAT written 1
 -- stays what it was.
 abbrev pub day_written : Bool → List ℕ → List ℕ
 day_written vbatBefore regs = pick (vbat regs) (pick vbatBefore regs (without_vbat regs)) (unstamped regs)
 
 -- What follows from the write of register a, by the registers as it left them, and by VBAT as it was before.
 -- K4. ST cleared on a W part zeroes the start-up count, and with it OSCON.
--- P16. VBAT may have to be put back, or the time_stamps_lem cleared.
+-- P16. VBAT may have to be put back, or the time-stamps cleared.
 -- K27. Any write of 0Ah zeroes the watchdog's count and sets the delay anew.
 -- V12. Any write of 0Bh zeroes the event inputs' counts.
 unfoldable pub after_write : Bool → Bool → ℕ → Device → Device

@@ -18,7 +18,7 @@ fn delay_after(v: u8) -> u32
     }
 }
 
-// The registers after a write of 04h, with VBAT as it was before: a 0 clears VBAT and both time_stamps_lem, a 1 leaves VBAT what it was.
+// The registers after a write of 04h, with VBAT as it was before: a 0 clears VBAT and both time-stamps, a 1 leaves VBAT what it was.
 fn day_written(vbat: bool, regs: [u8; 32]) -> [u8; 32]
     ensures { result ≡ day_written vbat regs }
 {

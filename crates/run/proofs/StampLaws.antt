@@ -1,4 +1,4 @@
--- The promise of the time_stamps_lem, proved: what each act does to them, by the laws of its own crate; a power failure, by an induction over the acts in
+-- The promise of the time-stamps, proved: what each act does to them, by the laws of its own crate; a power failure, by an induction over the acts in
 -- it; and every run from fresh.
 -- Assumes nothing.
 use Prim.Native.Nat.{ℕ, ◌<◌, ◌≤◌}
@@ -76,7 +76,7 @@ day_stage (Writing p) = day_place p
 day_stage (Second q) = inr (other_kind (Second q) (λ e. omega arith))
 day_stage (Over l) = inr (other_kind (Over l) (λ e. omega arith))
 
--- A wait leaves time_stamps_lem, VBAT and mark; select and end leave registers and mark.
+-- A wait leaves time-stamps, VBAT and mark; select and end leave registers and mark.
 wait_stays : (part n : ℕ) (w : World) → StampsStay w.device (waited (boots_of part) n w).after.device
 wait_stays part n w =
     subst (StampsStay w.device) (ap (λ (x : Waited Device). x.after) (wait_device (boots_of part) n w)) (wait_stamps (boots_of part) n w.device)
@@ -172,7 +172,7 @@ mark_of part arg w (Set p) n = absurd (n (set_stays p arg w.device).mark)
 abbrev device_of_lem : Outcome → Device
 device_of_lem o = o.after.device
 
--- A power failure. What stays in it, from the cut to the up: power is off, and time_stamps_lem, VBAT and mark are those of the cut.
+-- A power failure. What stays in it, from the cut to the up: power is off, and time-stamps, VBAT and mark are those of the cut.
 record Off (part : ℕ) (c v : World) : Type 0 where
   valid : Valid part v
   power : v.device.power ≡ false
@@ -302,7 +302,7 @@ module _ (part mask : ℕ) (xs : List Input) (w : World) (z : Shaped part w) (e 
             );
       }
 
--- Every run from fresh: time_stamps_lem only while VBAT is set, a mark only while it is.
+-- Every run from fresh: time-stamps only while VBAT is set, a mark only while it is.
 record Settled (d : Device) : Type 0 where
   empty : vbat d.regs ≡ false → NoStamps d.regs
   marked : d.mark ≡ true → vbat d.regs ≡ true

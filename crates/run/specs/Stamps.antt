@@ -1,4 +1,4 @@
--- What the time_stamps_lem promise: of one act, of a power failure with all that may come in it, and of every run from fresh. `Shows` says what a
+-- What the time-stamps promise: of one act, of a power failure with all that may come in it, and of every run from fresh. `Shows` says what a
 -- time-stamp holds, in words apart from the copy.
 -- Assumes nothing.
 use Rattle.std.specs.Prelude.{ℕ, ◌%◌, ◌<◌, ◌≤◌, ◌≡◌, true, false, not, ◌&&◌, ◌⊎◌, ◌≢◌, List, [], ◌∷◌, get_or}
@@ -17,7 +17,7 @@ use Rattle.record.specs.World.{World, Shaped}
 use Rattle.acts.specs.Act.{Outcome, performed}
 use Rattle.run.specs.Claim.{Input, our_chip, world_after, reached}
 
--- P17. The acts that may change register k of the time_stamps_lem; each is one that is done.
+-- P17. The acts that may change register k of the time-stamps; each is one that is done.
 pub data StampAct (act : Act) (arg : ℕ) (d : Device) (k : ℕ) : Type 0 where
   -- a cut on the battery, with no failure held: the power-down time-stamp
   fails : act ≡ Cut → vbaten d.regs ≡ true → vbat d.regs ≡ false → k < 0x1c → StampAct act arg d k
@@ -103,6 +103,6 @@ pub record TimeStamps : Type 0 where
   pub only_mark :
       (part : ℕ) (act : Act) (arg : ℕ) (w : World) → (performed part act arg w).after.device.mark ≢ w.device.mark
       → ((performed part act arg w).number ≡ 0) × ((act ≡ Cut) ⊎ (act ≡ Up))
-  -- A37, P17. in every run from fresh the mark is never set while power is on, and time_stamps_lem are held only while VBAT is set
+  -- A37, P17. in every run from fresh the mark is never set while power is on, and time-stamps are held only while VBAT is set
   pub unmarked : (part : ℕ) → is_part part ≡ true → (xs : List Input) → (reached part xs).device.power ≡ true → (reached part xs).device.mark ≡ false
   pub empty : (part : ℕ) → is_part part ≡ true → (xs : List Input) → vbat (reached part xs).device.regs ≡ false → NoStamps (reached part xs).device.regs

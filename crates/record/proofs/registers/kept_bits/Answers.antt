@@ -1,4 +1,4 @@
--- `record::registers::kept_bits`: by whether the register is below the time_stamps_lem (`same_masks`, `stamp_mask`).
+-- `record::registers::kept_bits`: by whether the register is below the time-stamps (`same_masks`, `stamp_mask`).
 -- Assumes nothing.
 use native.Mathlib.Omega.{arith}
 use mathlib.Core.Path.{sym}
