@@ -3,8 +3,8 @@
 ghost use Rattle.std.specs.Prelude.{◌≤◌, ◌≡◌, length};
 
 use crate::file::{Got, NAME_ROOM};
-use crate::run::{Reader, Reading};
-use crate::{Output, file, run};
+use crate::one_tape::{Reader, Reading};
+use crate::{Output, file, one_tape};
 use record::Device;
 use saved::Loaded;
 use tape::Tape;
@@ -150,7 +150,7 @@ fn run_open(
     requires eeprom_len { length eeprom.old ≡ 256 }
     requires id_len { length id.old ≡ 16 }
 {
-    let ran = run::run_tape(rt, reader, name, part, device, eeprom, id);
+    let ran = one_tape::run_tape(rt, reader, name, part, device, eeprom, id);
     save_ran(rt, save, ran, eeprom, id);
     ran.open
 }
@@ -168,7 +168,7 @@ fn open_argument(rt: HostRuntime, tape: usize, space: &mut [u8]) -> Source
     }
     match crate::argument(rt, tape, space) {
         Ok(n) => Source {
-            reader: run::open(rt, bytes::first(space, n)),
+            reader: one_tape::open(rt, bytes::first(space, n)),
             length: n,
         },
         Err(error) => {
@@ -204,7 +204,7 @@ fn run_chip(
             let mut reader = reader;
             let name = bytes::first(&space, source.length);
             let open = run_open(rt, &mut reader, name, save, part, device, eeprom, id);
-            run::close(reader);
+            one_tape::close(reader);
             open
         }
         None => {

@@ -4,7 +4,7 @@
 mod file; // file.rt: a small file, read or replaced
 mod help; // help.rt: what --help and --version tell
 mod keep; // keep.rt: a tape whose chip comes from a file or goes into one
-mod run; // run.rt: one tape, from a file or standard input to standard output
+mod one_tape; // one_tape.rt: one tape, from a file or standard input to standard output
 
 ghost use Rattle.std.specs.Prelude.{◌≡◌, ◌≤◌, length, take};
 ghost use Rattle.std.specs.Io.{ReadsAtMost};
@@ -328,7 +328,7 @@ fn take_name(rt: HostRuntime, name: &[u8], before: Named) -> Named {
             open: Output::Open,
         };
     }
-    let open = run::run_new(rt, name);
+    let open = one_tape::run_new(rt, name);
     Named {
         options: before.options,
         tapes: true,
@@ -382,7 +382,7 @@ fn is_misused(rt: HostRuntime, asked: Asked) -> bool {
 fn run_all(rt: HostRuntime, count: usize) -> Output {
     let named = take_arguments(rt, count);
     if !named.tapes {
-        return run::run_new(rt, b"-");
+        return one_tape::run_new(rt, b"-");
     }
     named.open
 }

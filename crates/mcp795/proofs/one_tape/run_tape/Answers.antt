@@ -1,7 +1,7 @@
 -- What `resume` answers begins a tape, and what is read is fed behind it. The arrays have room for what is read at once and for all answers to it.
 use Rattle.std.proofs.Common.{refl}
 use Rattle.mcp795.proofs.ReadingLaws.{resumed_fed, runs_from}
-use Rattle.mcp795.proofs.run.run_tape.Goals as goal
+use Rattle.mcp795.proofs.one_tape.run_tape.Goals as goal
 
 pub read_all-requires-clause-fed : goal.read_all-requires-clause-fed
 read_all-requires-clause-fed c =

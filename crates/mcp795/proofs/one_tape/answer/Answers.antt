@@ -1,6 +1,6 @@
 -- By the promise of the tape's `feed`, whose output has room for all answers.
 use Rattle.mcp795.proofs.ReadingLaws.{taken_over, all_fed}
-use Rattle.mcp795.proofs.run.answer.Goals as goal
+use Rattle.mcp795.proofs.one_tape.answer.Goals as goal
 
 pub returns : goal.returns
 returns c =

@@ -1,7 +1,7 @@
 -- What was read has been fed behind what was fed before.
 use Rattle.tape.specs.Tape.{loan}
 use Rattle.mcp795.proofs.ReadingLaws.{read_on_lem, on_more}
-use Rattle.mcp795.proofs.run.read_all.Goals as goal
+use Rattle.mcp795.proofs.one_tape.read_all.Goals as goal
 
 pub loop-turns-preserved : goal.loop-turns-preserved
 loop-turns-preserved c =
