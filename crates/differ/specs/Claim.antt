@@ -1,4 +1,4 @@
--- What is claimed of comparing, for every two chips in range, all texts that stand for them, and every room. Read this first; it is proved in proofs/ClaimLaws.
+-- What is claimed of comparing, for every two chips in range, all texts that stand for them, and every room. Read this first. It is not proved yet.
 -- It speaks of the texts' own lines: neither the table nor the code's walk is in it.
 -- Assumes nothing.
 use Rattle.std.specs.Prelude.{ℕ, zero, suc, ◌<◌, ◌≤◌, ◌≡◌, ◌⊎◌, ◌↔◌, ◌≢◌, List, [], ◌∷◌, length, take, get_or}

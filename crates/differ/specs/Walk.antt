@@ -1,5 +1,5 @@
 -- How code compares two lists of numbers: row by row of the table, each row as far as both lists have it, with a place in each list. And how it lists: a line more is put
--- where all before it were and it fits. It is no rule: WalkLaws tie it to the definitions.
+-- where all before it were and it fits. It is no rule; no law ties it to the definitions yet.
 -- Assumes nothing.
 use Rattle.std.specs.Prelude.{ℕ, zero, suc, ◌+◌, ◌-◌, Bool, true, false, ◌&&◌, List, [], ◌∷◌, ◌++◌, leb, length, take}
 use Rattle.std.proofs.lemmas.List.Edits.{sets}
