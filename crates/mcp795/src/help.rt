@@ -133,9 +133,10 @@ A tape that cannot be read, or not to its end, is left there, and the next one
 is answered. Where standard output cannot be written, the program stops. An
 option that is not known stops it before the first tape.
 
-The exit status of mcp795 is always 0. That of ./run, the script that starts it,
-is 1 where anything was told or the program could not be built, and else 0; it
-is 128 and the signal's number where a signal ended the program.
+The exit status of mcp795 is 0, and 141 where nobody reads its output any more.
+That of ./run, the script that starts it, is 1 where anything was told or the
+program could not be built, 141 as well where nobody reads, and else 0; it is
+128 and the signal's number where a signal ended the program.
 ",
     )
 }

@@ -170,14 +170,6 @@ pub fn tell_unless(rt: HostRuntime, written: io::Result<()>) -> Output {
     }
 }
 
-pub fn is_open(output: Output) -> bool {
-    match output {
-        Output::Open => true,
-        Output::Failed => false,
-        Output::Unread => false,
-    }
-}
-
 // Puts an argument into an array that is lent, and answers how many bytes it has. Of one that is too long to be taken the array has the beginning.
 pub fn argument(rt: HostRuntime, i: usize, space: &mut [u8]) -> io::Result<usize>
     ensures { ReadsAtMost result space.new }
@@ -344,7 +336,7 @@ fn take_arguments(rt: HostRuntime, count: usize) -> Named {
     };
     let mut i: usize = 1;
     while i < count {
-        if !is_open(named.open) {
+        if named.open != Output::Open {
             return named;
         }
         named = take_argument(rt, i, named);

@@ -58,7 +58,7 @@ fn put_out(rt: HostRuntime, fed: Feed, out: &[u8], more: bool) -> Reading
 {
     let put = fed.at;
     let open = write_answers(rt, bytes::first(out, put));
-    let takes = crate::is_open(open);
+    let takes = open == Output::Open;
     let tape = fed.tape;
     Reading {
         tape,

@@ -267,3 +267,10 @@ place_past i k n w part h o e g = past (some n w (subst (λ (c : ℕ). 0 < c) (s
 
     past : {m : ℕ} → 0 < m → i ≤ k → i + 1 ≤ k + m
     past p q = omega (arith, p, q)
+
+-- after a row has been put: its numbers were in the list
+pub row_put :
+    (o : Buffer) (ns : List ℕ) (i k n w : ℕ) (b : Buffer) → i < row_count → i ≤ k → Left o ns i k b → n ≡ (row_at i).lines (part_in ns ∷ [])
+    → w ≡ (row_at i).width → k + n * w ≤ length ns
+row_put o ns i k n w b h p l e f =
+    subst (λ (q : ℕ). k + n * q ≤ length ns) (sym f) (row_there o ns i k n b h l (lines_of ns i k n h p e))

@@ -11,4 +11,4 @@ returns-then-state-ne-STATE c = state_short c.args.state.now c.if-state-ne-STATE
 pub returns : goal.returns
 returns c =
     (λ i. not (c.clock_bad.ensures i || c.frame_bad.ensures i || c.events_bad.ensures i))
-    ∙ state_told c.args.state.now c.if-state-ne-STATE.false (λ k. (c.shared_slice_known-1.given k).fits)
+    ∙ state_told c.args.state.now c.if-state-ne-STATE.false (λ k. (c.type_inv.state k).fits)

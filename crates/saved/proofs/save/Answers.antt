@@ -45,8 +45,8 @@ numbers_of-count-requires c =
     let id = a.id.now in
     let z = sym c.setup_refusal-refused.ensures ∙ c.if-refused-ne0.false in
     let s = record_sized a.device _ c.well_formed.1.0 in
-    let be : Bytes ee = λ i. (c.shared_slice_known-1.given i).fits in
-    let bi : Bytes id = λ i. (c.shared_slice_known-2-1.given i).fits in
+    let be : Bytes ee = λ i. (c.type_inv.eeprom i).fits in
+    let bi : Bytes id = λ i. (c.type_inv.id i).fits in
     numbers_few a.part a.device ee id z s be bi
 
 pub put_rows-length-requires : goal.put_rows-length-requires
@@ -57,8 +57,8 @@ put_rows-length-requires c =
     let w = world a.device ee id in
     let z = sym c.setup_refusal-refused.ensures ∙ c.if-refused-ne0.false in
     let s = record_sized a.device _ c.well_formed.1.0 in
-    let be : Bytes ee = λ i. (c.shared_slice_known-1.given i).fits in
-    let bi : Bytes id = λ i. (c.shared_slice_known-2-1.given i).fits in
+    let be : Bytes ee = λ i. (c.type_inv.eeprom i).fits in
+    let bi : Bytes id = λ i. (c.type_inv.id i).fits in
     let n = c.numbers_of-count in
     let k = numbers_few a.part a.device ee id z s be bi in
     let g = sound_numbers a.part w (held_sound a.part a.device ee id z s be bi n.ensures.stage_bound) in
@@ -79,8 +79,8 @@ returns-then-into-length c =
     let z = sym c.setup_refusal-refused.ensures ∙ c.if-refused-ne0.false in
     let s = record_sized a.device _
     c.well_formed.1.0 in
-    let be : Bytes ee = λ i. (c.shared_slice_known-1.given i).fits in
-    let bi : Bytes id = λ i. (c.shared_slice_known-2-1.given i).fits in
+    let be : Bytes ee = λ i. (c.type_inv.eeprom i).fits in
+    let bi : Bytes id = λ i. (c.type_inv.id i).fits in
     let n = c.numbers_of-count in
     let k = numbers_few a.part a.device ee id z s be bi in
     let g = sound_numbers a.part w (held_sound a.part a.device ee id z s be bi n.ensures.stage_bound) in
@@ -103,8 +103,8 @@ put-requires c =
     let s = record_sized a.device _
     c.well_formed.1.0
     in
-    let be : Bytes ee = λ i. (c.shared_slice_known-1.given i).fits in
-    let bi : Bytes id = λ i. (c.shared_slice_known-2-1.given i).fits in
+    let be : Bytes ee = λ i. (c.type_inv.eeprom i).fits in
+    let bi : Bytes id = λ i. (c.type_inv.id i).fits in
     let n = c.numbers_of-count in
     let k = numbers_few a.part a.device ee id z s be bi in
     let g = sound_numbers a.part w (held_sound a.part a.device ee id z s be bi n.ensures.stage_bound) in
@@ -130,8 +130,8 @@ returns c =
     let s = record_sized a.device _
     c.well_formed.1.0
     in
-    let be : Bytes ee = λ i. (c.shared_slice_known-1.given i).fits in
-    let bi : Bytes id = λ i. (c.shared_slice_known-2-1.given i).fits in
+    let be : Bytes ee = λ i. (c.type_inv.eeprom i).fits in
+    let bi : Bytes id = λ i. (c.type_inv.id i).fits in
     let n = c.numbers_of-count in
     let k = numbers_few a.part a.device ee id z s be bi in
     let g = sound_numbers a.part w (held_sound a.part a.device ee id z s be bi n.ensures.stage_bound) in

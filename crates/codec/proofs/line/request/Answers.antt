@@ -6,7 +6,7 @@ use mathlib.Core.Bool.{Bool, true, false, not}
 use mathlib.Core.List.{List}
 use Prim.Native.Nat.{ℕ, ◌≤◌}
 use lib.ListN.{length, take}
-use borrow.Author.Tests.{lt-ltb, le-ltb, not-true, not-false}
+use borrow.Author.Tests.{lt-ltb, le-ltb}
 use Rattle.text.specs.Decimal.{value_of, read_limit}
 use Rattle.lines.specs.declared.Name.{Name}
 use Rattle.lines.specs.declared.Request.TheVariants.{Bad}
@@ -20,8 +20,8 @@ use Rattle.codec.proofs.line.request.Goals as goal
 short : (l : List ℕ) → length l ≤ line_limit → too_long l ≡ false
 short l h = le-ltb line_limit (length l) (omega arith)
 
-formed : {r : Bool} (l : List ℕ) → r ≡ in_form l → not r ≡ false → in_form l ≡ true
-formed {r} l e h = sym e ∙ not-false r h
+formed : {r : Bool} (l : List ℕ) → r ≡ in_form l → r ≡ true → in_form l ≡ true
+formed l e h = sym e ∙ h
 
 -- what the name is
 name_is :
@@ -47,12 +47,12 @@ overflow_add-result c =
 pub returns-then-not-formed : goal.returns-then-not-formed
 returns-then-not-formed c =
     let l = c.args.line.now in
-    form_asks l _ (short c.args.line.now c.if-line-gt-LINE_LIMIT.false) (sym c.in_form-formed.ensures ∙ not-true c.in_form-formed.result c.if-not-formed.true-raw)
+    form_asks l _ (short c.args.line.now c.if-line-gt-LINE_LIMIT.false) (sym c.in_form-formed.ensures ∙ c.if-not-formed.true)
     (omega (arith, c.form_reach.ensures))
 
 pub returns-then-unknown_name : goal.returns-then-unknown_name
 returns-then-unknown_name c =
-    sym (name_asks _ (short c.args.line.now c.if-line-gt-LINE_LIMIT.false) (formed c.args.line.now c.in_form-formed.ensures c.if-not-formed.false-raw) (sym (name_is c.args.line.now c.unknown_name.ensures c.name_of-name.ensures c.name_text.ensures) ∙ c.if-unknown_name.true))
+    sym (name_asks _ (short c.args.line.now c.if-line-gt-LINE_LIMIT.false) (formed c.args.line.now c.in_form-formed.ensures c.if-not-formed.false) (sym (name_is c.args.line.now c.unknown_name.ensures c.name_of-name.ensures c.name_text.ensures) ∙ c.if-unknown_name.true))
 
 pub number_column-requires : goal.number_column-requires
 number_column-requires c =
@@ -61,7 +61,7 @@ number_column-requires c =
 pub returns-then-bad_digits : goal.returns-then-bad_digits
 returns-then-bad_digits c =
     ap (λ (n : ℕ). Bad 75 n) c.number_column.ensures
-    ∙ sym (number_asks _ (short c.args.line.now c.if-line-gt-LINE_LIMIT.false) (formed c.args.line.now c.in_form-formed.ensures c.if-not-formed.false-raw) (sym (name_is c.args.line.now c.unknown_name.ensures c.name_of-name.ensures c.name_text.ensures) ∙ c.if-unknown_name.false)
+    ∙ sym (number_asks _ (short c.args.line.now c.if-line-gt-LINE_LIMIT.false) (formed c.args.line.now c.in_form-formed.ensures c.if-not-formed.false) (sym (name_is c.args.line.now c.unknown_name.ensures c.name_of-name.ensures c.name_text.ensures) ∙ c.if-unknown_name.false)
     (sym (digits_are c.args.line.now c.bad_digits.ensures c.digits-text.ensures) ∙ c.if-bad_digits.true))
 
 pub returns : goal.returns
@@ -72,4 +72,4 @@ returns c =
     ∙ (λ i. asked
     ((c.name_of-name.ensures ∙ ap name_of c.name_text.ensures) i)
     ((c.value_of.ensures ∙ ap (λ (s : List ℕ). value_of (take read_limit s)) c.digits-text.ensures ∙ ap value_of (few_digits (digits_text l) g)) i))
-    ∙ sym (all_asks l (short c.args.line.now c.if-line-gt-LINE_LIMIT.false) (formed c.args.line.now c.in_form-formed.ensures c.if-not-formed.false-raw) (sym (name_is c.args.line.now c.unknown_name.ensures c.name_of-name.ensures c.name_text.ensures) ∙ c.if-unknown_name.false) g)
+    ∙ sym (all_asks l (short c.args.line.now c.if-line-gt-LINE_LIMIT.false) (formed c.args.line.now c.in_form-formed.ensures c.if-not-formed.false) (sym (name_is c.args.line.now c.unknown_name.ensures c.name_of-name.ensures c.name_text.ensures) ∙ c.if-unknown_name.false) g)

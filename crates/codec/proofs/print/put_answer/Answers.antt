@@ -1,36 +1,39 @@
 -- `codec::print::put_answer`: four fields and the line's end, one after the other.
 -- Assumes nothing.
 use native.Mathlib.Omega.{arith}
-use mathlib.Core.Path.{◌∙◌}
-use Prim.Native.Nat.{◌+◌, ◌^◌, ◌<◌, ◌≤◌}
+use mathlib.Core.Path.{◌≡◌, ◌∙◌}
+use mathlib.Core.List.{List, ◌++◌}
+use Prim.Native.Nat.{ℕ, ◌+◌, ◌^◌, ◌<◌, ◌≤◌}
 use lib.ListN.{length}
-use Rattle.text.specs.Buffer.{buffer}
+use Rattle.text.specs.Buffer.{Buffer, buffer, append}
+use Rattle.text.specs.Decimal.{decimal_text}
 use Rattle.text.proofs.BufferLaws.{put_then}
-use Rattle.lines.specs.Print.{no_word, irq_word, wdo_word, fields_text, answer_chars, answer_line}
+use Rattle.lines.specs.Print.{no_word, irq_word, wdo_word, fields_text, answer_chars, answer_line, out_room, answer_room}
 use Rattle.lines.proofs.PrintLaws.{number_room, level_room}
 use Rattle.codec.proofs.print.put_answer.Goals as goal
 
+-- the room that the second field leaves
+second :
+    (number : ℕ) (o : Buffer) (q : List ℕ) {p : Buffer} {r : ℕ} → p ≡ append o (no_word ++ decimal_text number) → length p.bytes ≡ length o.bytes
+    → number < 256 → o.at + answer_room ≤ length o.bytes → r ≤ p.at + 5 + out_room → length q ≡ length p.bytes → r + 33 ≤ length q
+second number o q e l n h b f =
+    let few : number < 10 ^ 3 = omega (arith, n) in
+    omega (arith, number_room 2 number 58 o no_word few e l h, b, f)
+
 pub put_field-c-requires : goal.put_field-c-requires
 put_field-c-requires c =
-    let h : c.args.number < 10 ^ 3 = omega (arith, c.ranges.number) in
-    let one = number_room 2 c.args.number 58 (buffer c.args.into.now c.args.at) no_word h c.put_field-a.ensures.0 (omega arith) c.requires in
-    let two : c.put_field-b.result + 33 ≤ length c.put_field-b.new.into = omega (arith, one, c.put_field-b.ensures.1) in
-    omega (arith, two)
+    omega (arith, second c.args.number (buffer c.args.into.now c.args.at) c.put_field-b.new.into c.put_field-a.ensures.0 c.put_field-a.auto.into c.ranges.number.fits c.requires c.put_field-b.ensures.1 c.put_field-b.auto.into)
 
 pub put_field-d-requires : goal.put_field-d-requires
 put_field-d-requires c =
-    let h : c.args.number < 10 ^ 3 = omega (arith, c.ranges.number) in
-    let one = number_room 2 c.args.number 58 (buffer c.args.into.now c.args.at) no_word h c.put_field-a.ensures.0 (omega arith) c.requires in
-    let two : c.put_field-b.result + 33 ≤ length c.put_field-b.new.into = omega (arith, one, c.put_field-b.ensures.1) in
+    let two = second c.args.number (buffer c.args.into.now c.args.at) c.put_field-b.new.into c.put_field-a.ensures.0 c.put_field-a.auto.into c.ranges.number.fits c.requires c.put_field-b.ensures.1 c.put_field-b.auto.into in
     let three =
     level_room 27 (buffer c.put_field-b.new.into c.put_field-b.result) irq_word c.args.irq c.level.ensures c.put_field-c.ensures.0 (omega arith) two in
     omega (arith, three)
 
 pub put_byte-requires : goal.put_byte-requires
 put_byte-requires c =
-    let h : c.args.number < 10 ^ 3 = omega (arith, c.ranges.number) in
-    let one = number_room 2 c.args.number 58 (buffer c.args.into.now c.args.at) no_word h c.put_field-a.ensures.0 (omega arith) c.requires in
-    let two : c.put_field-b.result + 33 ≤ length c.put_field-b.new.into = omega (arith, one, c.put_field-b.ensures.1) in
+    let two = second c.args.number (buffer c.args.into.now c.args.at) c.put_field-b.new.into c.put_field-a.ensures.0 c.put_field-a.auto.into c.ranges.number.fits c.requires c.put_field-b.ensures.1 c.put_field-b.auto.into in
     let three =
     level_room 27 (buffer c.put_field-b.new.into c.put_field-b.result) irq_word c.args.irq c.level.ensures c.put_field-c.ensures.0 (omega arith) two in
     let four =

@@ -9,7 +9,7 @@ use Rattle.text.specs.Buffer.{buffer}
 use Rattle.form.specs.Table.{part_in}
 use Rattle.form.specs.Chip.{form_text}
 use Rattle.form.proofs.FactLaws.{good_facts}
-use Rattle.saved.proofs.PutLaws.{left_none, left_more, left_all, row_there, row_room, lines_of, place_past}
+use Rattle.saved.proofs.PutLaws.{left_none, left_more, left_all, row_there, row_room, lines_of, place_past, row_put}
 use Rattle.saved.proofs.LoopLaws.{lines_most, width_most}
 use Rattle.saved.proofs.put.put_rows.Goals as goal
 
@@ -56,26 +56,14 @@ put_row-end-requires c =
 
 pub overflow_mul-place : goal.overflow_mul-place
 overflow_mul-place c =
-    let ns = c.args.numbers.now in
     let l = c.loop-row in
-    let t = c.loop-row-test.true in
-    let n = c.lines-lines.result in
-    let m = lines_of ns l.row l.place n t l.invariant.2 c.lines-lines.ensures in
-    let r =
-    subst (λ (q : ℕ). l.place + n * q ≤ length ns) (sym c.width-width.ensures)
-    (row_there (buffer c.args.into.now 0) ns l.row l.place n (buffer l.into l.end) t l.invariant.3 m) in
+    let r = row_put _ c.args.numbers.now l.row l.place _ _ _ c.loop-row-test.true l.invariant.2 l.invariant.3 c.lines-lines.ensures c.width-width.ensures in
     record { fits = omega (arith, r) }
 
 pub overflow_add-place : goal.overflow_add-place
 overflow_add-place c =
-    let ns = c.args.numbers.now in
     let l = c.loop-row in
-    let t = c.loop-row-test.true in
-    let n = c.lines-lines.result in
-    let m = lines_of ns l.row l.place n t l.invariant.2 c.lines-lines.ensures in
-    let r =
-    subst (λ (q : ℕ). l.place + n * q ≤ length ns) (sym c.width-width.ensures)
-    (row_there (buffer c.args.into.now 0) ns l.row l.place n (buffer l.into l.end) t l.invariant.3 m) in
+    let r = row_put _ c.args.numbers.now l.row l.place _ _ _ c.loop-row-test.true l.invariant.2 l.invariant.3 c.lines-lines.ensures c.width-width.ensures in
     record { fits = omega (arith, r) }
 
 pub loop-row-preserved : goal.loop-row-preserved

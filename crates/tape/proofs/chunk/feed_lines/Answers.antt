@@ -13,7 +13,7 @@ use Rattle.answers.proofs.HeldLaws.{onward_start, onward_line}
 use Rattle.tape.specs.declared.Feed.{Feed}
 use Rattle.tape.specs.Tape.{head, state, loan, held_in, given_by}
 use Rattle.tape.proofs.TapeLaws.{sofar_start, sofar_done, turn_stop, turn_line, stops, goes, tape_facts, tape_sound, lent_after, kept_same, given}
-use Rattle.tape.proofs.TurnLaws.{piece_in, next_in, short}
+use Rattle.tape.proofs.TurnLaws.{piece_in, next_in, headed_by, short}
 use Rattle.tape.proofs.chunk.feed_lines.Goals as goal
 
 pub loop-from-init : goal.loop-from-init
@@ -26,14 +26,13 @@ loop-from-init c =
     )
 
 pub add_to_head-more-requires : goal.add_to_head-more-requires
-add_to_head-more-requires c = record { size = ap length c.loop-from.invariant.0.line ∙ (tape_facts (loan c.args.tape c.args.line.now c.args.eeprom.now c.args.id.now) c.requires).headed.size; within = c.loop-from.invariant.0.head }
+add_to_head-more-requires c =
+    let l₀ = loan c.args.tape c.args.line.now c.args.eeprom.now c.args.id.now in
+    headed_by l₀ _ _ (tape_facts l₀ c.requires) c.loop-from.invariant.0.line c.loop-from.invariant.0.head
 
 pub overflow_add-from : goal.overflow_add-from
 overflow_add-from c =
-    let d =
-    piece_in c.args.chunk.now c.rest-left.result.now c.loop-from.from c.leading_of-n.result c.rest-left.ensures c.leading_of-n.ensures
-    c.loop-from.invariant.0.place in
-    omega (arith, d)
+    omega (arith, piece_in c.args.chunk.now _ c.loop-from.from _ c.rest-left.ensures c.leading_of-n.ensures c.loop-from.invariant.0.place)
 
 pub returns-then-stops : goal.returns-then-stops
 returns-then-stops c =
@@ -53,60 +52,33 @@ returns-then-stops c =
 pub end_line-p-requires : goal.end_line-p-requires
 end_line-p-requires c =
     let i = c.loop-from.invariant.0 in
-    let b = (tape_facts (loan c.args.tape c.args.line.now c.args.eeprom.now c.args.id.now) c.requires).lent in
-    let d =
-    piece_in c.args.chunk.now c.rest-left.result.now c.loop-from.from c.leading_of-n.result c.rest-left.ensures c.leading_of-n.ensures
-    c.loop-from.invariant.0.place in
-    let n =
-    next_in c.args.chunk.now c.rest-left.result.now c.loop-from.from c.leading_of-n.result (length c.loop-from.into - c.loop-from.p.at) d
-    (goes _ _ _ _ d.size c.room.ensures c.if-stops.false) in
+    let l₀ = loan c.args.tape c.args.line.now c.args.eeprom.now c.args.id.now in
+    let f = tape_facts l₀ c.requires in
+    let n = next_in c.args.chunk.now _ c.loop-from.from _ _ _ c.rest-left.ensures c.leading_of-n.ensures c.loop-from.invariant.0.place c.room.ensures c.if-stops.false in
     record {
-      headed = record { size = ap length c.loop-from.invariant.0.line ∙ (tape_facts (loan c.args.tape c.args.line.now c.args.eeprom.now c.args.id.now) c.requires).headed.size; within = c.loop-from.invariant.0.head };
-      lent = record { eeprom = i.eeprom ∙ b.eeprom; id = i.id ∙ b.id };
+      headed = headed_by l₀ _ _ f i.line i.head;
+      lent = record { eeprom = i.eeprom ∙ f.lent.eeprom; id = i.id ∙ f.lent.id };
       device_value = c.loop-from.invariant.1.sound.goes;
       answer_room_in_bounds = omega (arith, n);
     }
 
 pub overflow_add-from-in-loop-from : goal.overflow_add-from-in-loop-from
 overflow_add-from-in-loop-from c =
-    let d =
-    piece_in c.args.chunk.now c.rest-left.result.now c.loop-from.from c.leading_of-n.result c.rest-left.ensures c.leading_of-n.ensures
-    c.loop-from.invariant.0.place in
-    let n =
-    next_in c.args.chunk.now c.rest-left.result.now c.loop-from.from c.leading_of-n.result (length c.loop-from.into - c.loop-from.p.at) d
-    (goes _ _ _ _ d.size c.room.ensures c.if-stops.false) in
-    omega (arith, n)
+    omega (arith, next_in c.args.chunk.now _ c.loop-from.from _ _ _ c.rest-left.ensures c.leading_of-n.ensures c.loop-from.invariant.0.place c.room.ensures c.if-stops.false)
 
 pub overflow_add-from-in-loop-from-2 : goal.overflow_add-from-in-loop-from-2
 overflow_add-from-in-loop-from-2 c =
-    let d =
-    piece_in c.args.chunk.now c.rest-left.result.now c.loop-from.from c.leading_of-n.result c.rest-left.ensures c.leading_of-n.ensures
-    c.loop-from.invariant.0.place in
-    let n =
-    next_in c.args.chunk.now c.rest-left.result.now c.loop-from.from c.leading_of-n.result (length c.loop-from.into - c.loop-from.p.at) d
-    (goes _ _ _ _ d.size c.room.ensures c.if-stops.false) in
-    omega (arith, n)
+    omega (arith, next_in c.args.chunk.now _ c.loop-from.from _ _ _ c.rest-left.ensures c.leading_of-n.ensures c.loop-from.invariant.0.place c.room.ensures c.if-stops.false)
 
 pub loop-from-smaller : goal.loop-from-smaller
 loop-from-smaller c =
-    let d =
-    piece_in c.args.chunk.now c.rest-left.result.now c.loop-from.from c.leading_of-n.result c.rest-left.ensures c.leading_of-n.ensures
-    c.loop-from.invariant.0.place in
-    let n =
-    next_in c.args.chunk.now c.rest-left.result.now c.loop-from.from c.leading_of-n.result (length c.loop-from.into - c.loop-from.p.at) d
-    (goes _ _ _ _ d.size c.room.ensures c.if-stops.false) in
-    omega (arith, n)
+    omega (arith, next_in c.args.chunk.now _ c.loop-from.from _ _ _ c.rest-left.ensures c.leading_of-n.ensures c.loop-from.invariant.0.place c.room.ensures c.if-stops.false)
 
 pub loop-from-preserved : goal.loop-from-preserved
 loop-from-preserved c =
     let l = c.loop-from in
     let i = l.invariant.0 in
-    let d =
-    piece_in c.args.chunk.now c.rest-left.result.now c.loop-from.from c.leading_of-n.result c.rest-left.ensures c.leading_of-n.ensures
-    c.loop-from.invariant.0.place in
-    let n =
-    next_in c.args.chunk.now c.rest-left.result.now c.loop-from.from c.leading_of-n.result (length c.loop-from.into - c.loop-from.p.at) d
-    (goes _ _ _ _ d.size c.room.ensures c.if-stops.false) in
+    let n = next_in c.args.chunk.now _ c.loop-from.from _ _ _ c.rest-left.ensures c.leading_of-n.ensures c.loop-from.invariant.0.place c.room.ensures c.if-stops.false in
     let f = c.end_line-p in
     let a = c.args in
     let ee = f.new.eeprom in
@@ -140,7 +112,7 @@ returns c =
     let l₀ = loan a.tape a.line.now a.eeprom.now a.id.now in
     let h = held_by l.p l.eeprom l.id in
     let kept = take l.begun l.line in
-    let k = kept_same l.line l.begun (record { size = ap length c.loop-from.invariant.0.line ∙ (tape_facts (loan c.args.tape c.args.line.now c.args.eeprom.now c.args.id.now) c.requires).headed.size; within = c.loop-from.invariant.0.head }) in
+    let k = kept_same l.line l.begun (headed_by l₀ _ _ (tape_facts l₀ c.requires) l.invariant.0.line l.invariant.0.head) in
     ap (λ (f : Feed). given_by f l.line l.eeprom l.id l.into) c.feed_of-2.ensures
     ∙ given l₀ _ (state (setup_in h) kept) (buffer l.into l.p.at) l.from _
     (lent_after l₀ h kept l.line l.begun l.invariant.1 k.0 (k.1 ∙ ap (over kept) l.invariant.0.line))

@@ -13,13 +13,13 @@ loop-i-init c = (omega arith, omega arith)
 pub returns-then-not-of_kind : goal.returns-then-not-of_kind
 returns-then-not-of_kind c =
     let a = c.args in
-    let e = sym c.is_of-of_kind.ensures ∙ not-true c.is_of-of_kind.result c.if-not-of_kind.true-raw in
+    let e = sym c.is_of-of_kind.ensures ∙ c.if-not-of_kind.true in
     sym (leading_stops (of_kind a.kind) _ _ c.loop-i-test.true e) ∙ c.loop-i.invariant.1
 
 pub loop-i-preserved : goal.loop-i-preserved
 loop-i-preserved c =
     let a = c.args in
-    let e = sym c.is_of-of_kind.ensures ∙ not-false c.is_of-of_kind.result c.if-not-of_kind.false-raw in
+    let e = sym c.is_of-of_kind.ensures ∙ c.if-not-of_kind.false in
     (omega arith, sym (leading_more (of_kind a.kind) _ _ c.loop-i-test.true e) ∙ c.loop-i.invariant.1)
 
 pub returns : goal.returns

@@ -18,12 +18,12 @@ overflow_mul-value c = omega (arith, bound_small c.loop-i.i (omega arith))
 pub overflow_add-value : goal.overflow_add-value
 overflow_add-value c =
     let l = c.loop-i in
-    omega (arith, bound_small l.i (omega arith), c.digit_value.ensures, c.shared_slice_known-in-loop-i-1.given l.i)
+    omega (arith, bound_small l.i (omega arith), c.digit_value.ensures, c.type_inv.read l.i)
 
 pub loop-i-preserved : goal.loop-i-preserved
 loop-i-preserved c =
     let l = c.loop-i in
-    let b = c.shared_slice_known-in-loop-i-1.given l.i in (
+    let b = c.type_inv.read l.i in (
       omega arith,
       l.invariant.1,
       omega (arith, bound_more l.i, l.invariant.2, c.digit_value.ensures, b),

@@ -19,7 +19,10 @@ grown-requires-2 c =
 
 pub returns : goal.returns
 returns c =
-    let f = c.struct_known-6-1.given in
+    let d : Fits w16 c.args.d.counters.divider = search rules in
+    let w : Fits w32 c.args.d.counters.watchdog = search rules in
+    let l : Fits w32 c.args.d.counters.delay = search rules in
+    let p : Fits w16 c.args.d.counters.pulse = search rules in
     let y : Fits w8 c.args.d.cycle.left = search rules in
     rw (
       c.fallen.ensures,
@@ -31,4 +34,4 @@ returns c =
       c.clock_runs-running.ensures,
       c.watchdog_runs-counting.ensures,
     )
-    (jump_made _ _ _ c.requires y.fits f.0.fits f.1.1.0.fits f.1.1.1.0.fits f.1.1.1.1.0.fits)
+    (jump_made _ _ _ c.requires y.fits d.fits w.fits l.fits p.fits)

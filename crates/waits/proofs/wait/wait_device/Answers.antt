@@ -13,11 +13,11 @@ use Rattle.waits.proofs.wait.wait_device.Goals as goal
 pub returns-then-not-alive : goal.returns-then-not-alive
 returns-then-not-alive c =
     let a = c.args in
-    let r = device_wait_dead a.boots a.n a.d (sym c.is_alive-alive.ensures ∙ not-true _ c.if-not-alive.true-raw) in
+    let r = device_wait_dead a.boots a.n a.d (sym c.is_alive-alive.ensures ∙ c.if-not-alive.true) in
     (simp r, simp r)
 
 pub loop-left-init : goal.loop-left-init
-loop-left-init c = (omega arith, sym c.is_alive-alive.ensures ∙ not-false _ c.if-not-alive.false-raw, loop_starts _ _ _ _)
+loop-left-init c = (omega arith, sym c.is_alive-alive.ensures ∙ c.if-not-alive.false, loop_starts _ _ _ _)
 
 pub jump-now_device-requires : goal.jump-now_device-requires
 jump-now_device-requires c = quiet_got _ _ _ c.loop-left.invariant.1 c.quiet_ticks-k.ensures c.if-k-gt0.true
