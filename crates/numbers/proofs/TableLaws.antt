@@ -1,7 +1,7 @@
 -- Laws of the table as code has it: a row by its number.
 -- Assumes nothing.
 use mathlib.Core.Path.{◌≡◌, refl, sym, ap, subst, ◌∙◌}
-use mathlib.Core.Logic.{◌≢◌}
+use mathlib.Core.Logic.{◌≢◌, ◌⊎◌, inl, inr}
 use mathlib.Core.Bool.{Bool, true, false, not, ◌&&◌, ◌||◌}
 use mathlib.Core.List.{List, [], ◌∷◌}
 use Prim.Native.Nat.{ℕ, zero, suc, ◌+◌, ◌/◌, ◌%◌, ◌<◌, ◌≤◌}
@@ -23,11 +23,13 @@ use Rattle.record.specs.declared.Place.TheVariants.{EepromAt, ClockAt, IdAt}
 use Rattle.record.specs.declared.Stage.{Stage}
 use Rattle.record.specs.declared.Stage.TheVariants.{Reading, Writing, Second}
 use Rattle.record.specs.Numbers.{place_of, pair_of, stage_of}
-use Rattle.record.specs.Part.{is_part, size_of}
-use Rattle.record.specs.Registers.{watchdog_at, event_at, periods, period_of}
+use Rattle.record.specs.Part.{size_of}
+use Rattle.record.specs.Registers.{periods, period_of}
 use Rattle.record.specs.Stages.{foreign_to_wip}
-use Rattle.form.specs.Table.{rows, register_good, part_in, register_in, power_in, startup_by, startup_limit, mark_limit, kind_limit, case_limit, case_good, value_limit, target_limit, left_by, left_limit, edges_by, since_by, debounce_by, chip_events, stage_good, target_good, part_row, register_row, sram_row, divider_row, startup_row, watchdog_row, delay_row, pulse_row, power_row, mark_row, wel_row, protection_row, lock_row, stage_row, offsets_row, load_row, next_row, target_row, left_row, eeprom_row, id_row, evls_row, evhs_row, edges_row, since_row, debounce_row}
-use Rattle.numbers.specs.Tables.{row_at, row_count}
+use Rattle.form.specs.Table.{rows, part_in, power_in, startup_by, kind_limit, case_limit, case_good, value_limit, target_limit, left_by, left_limit, debounce_by, stage_good, target_good, part_row, register_row, sram_row, divider_row, startup_row, watchdog_row, delay_row, pulse_row, power_row, mark_row, wel_row, protection_row, lock_row, stage_row, offsets_row, load_row, next_row, target_row, left_row, eeprom_row, id_row, evls_row, evhs_row, edges_row, since_row, debounce_row}
+use Rattle.numbers.specs.declared.table.Row.{Row as Name}
+use Rattle.numbers.specs.declared.table.Row.TheVariants.{Part as PartRow, Reg, Sram, Divider, Startup, Watchdog, Delay, Pulse, Power, Mark, Wel, Bp, Lock, Stage as StageRow, Offsets, Load, Next, Target, Left, Ee, Id, Evls, Evhs, Edges, Since, Debounce}
+use Rattle.numbers.specs.Tables.{row_at, row_count, row_place, row_of}
 
 -- What is constant of each row, as code has it. Numbers on a line;
 abbrev pub widths : List ℕ
@@ -39,11 +41,6 @@ line_counts = 1 ∷ 32 ∷ 8 ∷ 1 ∷ 1 ∷ 1 ∷ 1 ∷ 1 ∷ 1 ∷ 1 ∷ 1 ∷
 
 abbrev pub lines_by : ℕ → ℕ → ℕ
 lines_by i part = pick (eqb i 19) (size_of part / 8) (get_or line_counts i 0)
-
--- what a number is less than, where that is one number; 0 where it depends on others.
-abbrev pub limits : List ℕ
-limits =
-    0 ∷ 0 ∷ 256 ∷ 32768 ∷ 0 ∷ 0 ∷ 2097153 ∷ 4097 ∷ 2 ∷ 0 ∷ 2 ∷ 4 ∷ 3 ∷ 0 ∷ 256 ∷ 256 ∷ 8 ∷ 0 ∷ 0 ∷ 256 ∷ 256 ∷ 2 ∷ 2 ∷ 0 ∷ 0 ∷ 0 ∷ []
 
 pub row_width : (i : ℕ) → i < row_count → get_or widths i 0 ≡ (row_at i).width
 unfolding every row_at rows part_row register_row sram_row divider_row startup_row watchdog_row delay_row pulse_row power_row mark_row wel_row protection_row lock_row stage_row offsets_row load_row next_row target_row left_row eeprom_row id_row evls_row evhs_row edges_row since_row debounce_row
@@ -58,38 +55,62 @@ row_lines_lem b i h =
     other : {t u : Bool} → t ≡ false → (t || u) ≡ true → u ≡ true
     other e g = rw e at g
 
--- the rows whose limit is one number
-pub row_limit :
-    (i : ℕ) → i < row_count → i ≢ 0 → i ≢ 1 → i ≢ 4 → i ≢ 5 → i ≢ 9 → i ≢ 13 → i ≢ 17 → i ≢ 18 → i ≢ 23 → i ≢ 24 → i ≢ 25 → (b : List ℕ) (j n : ℕ)
-    → ltb n (get_or limits i 0) ≡ (row_at i).good b j n
+-- Rows by name: those of one number on a line,
+pub narrow : (r : Name) → r ≢ Sram → r ≢ StageRow → r ≢ Load → r ≢ Target → r ≢ Ee → r ≢ Id → 1 ≡ (row_of r).width
 unfolding row_at rows part_row register_row sram_row divider_row startup_row watchdog_row delay_row pulse_row power_row mark_row wel_row protection_row lock_row stage_row offsets_row load_row next_row target_row left_row eeprom_row id_row evls_row evhs_row edges_row since_row debounce_row
-row_limit zero h e0 e1 e4 e5 e9 e13 e17 e18 e23 e24 e25 b j n = absurd (e0 refl)
-row_limit (suc zero) h e0 e1 e4 e5 e9 e13 e17 e18 e23 e24 e25 b j n = absurd (e1 refl)
-row_limit (suc (suc zero)) h e0 e1 e4 e5 e9 e13 e17 e18 e23 e24 e25 b j n = refl
-row_limit (suc (suc (suc zero))) h e0 e1 e4 e5 e9 e13 e17 e18 e23 e24 e25 b j n = refl
-row_limit (suc (suc (suc (suc zero)))) h e0 e1 e4 e5 e9 e13 e17 e18 e23 e24 e25 b j n = absurd (e4 refl)
-row_limit (suc (suc (suc (suc (suc zero))))) h e0 e1 e4 e5 e9 e13 e17 e18 e23 e24 e25 b j n = absurd (e5 refl)
-row_limit (suc (suc (suc (suc (suc (suc zero)))))) h e0 e1 e4 e5 e9 e13 e17 e18 e23 e24 e25 b j n = refl
-row_limit (suc (suc (suc (suc (suc (suc (suc zero))))))) h e0 e1 e4 e5 e9 e13 e17 e18 e23 e24 e25 b j n = refl
-row_limit (suc (suc (suc (suc (suc (suc (suc (suc zero)))))))) h e0 e1 e4 e5 e9 e13 e17 e18 e23 e24 e25 b j n = refl
-row_limit (suc (suc (suc (suc (suc (suc (suc (suc (suc zero))))))))) h e0 e1 e4 e5 e9 e13 e17 e18 e23 e24 e25 b j n = absurd (e9 refl)
-row_limit (suc (suc (suc (suc (suc (suc (suc (suc (suc (suc zero)))))))))) h e0 e1 e4 e5 e9 e13 e17 e18 e23 e24 e25 b j n = refl
-row_limit (suc (suc (suc (suc (suc (suc (suc (suc (suc (suc (suc zero))))))))))) h e0 e1 e4 e5 e9 e13 e17 e18 e23 e24 e25 b j n = refl
-row_limit (suc (suc (suc (suc (suc (suc (suc (suc (suc (suc (suc (suc zero)))))))))))) h e0 e1 e4 e5 e9 e13 e17 e18 e23 e24 e25 b j n = refl
-row_limit (suc (suc (suc (suc (suc (suc (suc (suc (suc (suc (suc (suc (suc zero))))))))))))) h e0 e1 e4 e5 e9 e13 e17 e18 e23 e24 e25 b j n = absurd (e13 refl)
-row_limit (suc (suc (suc (suc (suc (suc (suc (suc (suc (suc (suc (suc (suc (suc zero)))))))))))))) h e0 e1 e4 e5 e9 e13 e17 e18 e23 e24 e25 b j n = refl
-row_limit (suc (suc (suc (suc (suc (suc (suc (suc (suc (suc (suc (suc (suc (suc (suc zero))))))))))))))) h e0 e1 e4 e5 e9 e13 e17 e18 e23 e24 e25 b j n = refl
-row_limit (suc (suc (suc (suc (suc (suc (suc (suc (suc (suc (suc (suc (suc (suc (suc (suc zero)))))))))))))))) h e0 e1 e4 e5 e9 e13 e17 e18 e23 e24 e25 b j n = refl
-row_limit (suc (suc (suc (suc (suc (suc (suc (suc (suc (suc (suc (suc (suc (suc (suc (suc (suc zero))))))))))))))))) h e0 e1 e4 e5 e9 e13 e17 e18 e23 e24 e25 b j n = absurd (e17 refl)
-row_limit (suc (suc (suc (suc (suc (suc (suc (suc (suc (suc (suc (suc (suc (suc (suc (suc (suc (suc zero)))))))))))))))))) h e0 e1 e4 e5 e9 e13 e17 e18 e23 e24 e25 b j n = absurd (e18 refl)
-row_limit (suc (suc (suc (suc (suc (suc (suc (suc (suc (suc (suc (suc (suc (suc (suc (suc (suc (suc (suc zero))))))))))))))))))) h e0 e1 e4 e5 e9 e13 e17 e18 e23 e24 e25 b j n = refl
-row_limit (suc (suc (suc (suc (suc (suc (suc (suc (suc (suc (suc (suc (suc (suc (suc (suc (suc (suc (suc (suc zero)))))))))))))))))))) h e0 e1 e4 e5 e9 e13 e17 e18 e23 e24 e25 b j n = refl
-row_limit (suc (suc (suc (suc (suc (suc (suc (suc (suc (suc (suc (suc (suc (suc (suc (suc (suc (suc (suc (suc (suc zero))))))))))))))))))))) h e0 e1 e4 e5 e9 e13 e17 e18 e23 e24 e25 b j n = refl
-row_limit (suc (suc (suc (suc (suc (suc (suc (suc (suc (suc (suc (suc (suc (suc (suc (suc (suc (suc (suc (suc (suc (suc zero)))))))))))))))))))))) h e0 e1 e4 e5 e9 e13 e17 e18 e23 e24 e25 b j n = refl
-row_limit (suc (suc (suc (suc (suc (suc (suc (suc (suc (suc (suc (suc (suc (suc (suc (suc (suc (suc (suc (suc (suc (suc (suc zero))))))))))))))))))))))) h e0 e1 e4 e5 e9 e13 e17 e18 e23 e24 e25 b j n = absurd (e23 refl)
-row_limit (suc (suc (suc (suc (suc (suc (suc (suc (suc (suc (suc (suc (suc (suc (suc (suc (suc (suc (suc (suc (suc (suc (suc (suc zero)))))))))))))))))))))))) h e0 e1 e4 e5 e9 e13 e17 e18 e23 e24 e25 b j n = absurd (e24 refl)
-row_limit (suc (suc (suc (suc (suc (suc (suc (suc (suc (suc (suc (suc (suc (suc (suc (suc (suc (suc (suc (suc (suc (suc (suc (suc (suc zero))))))))))))))))))))))))) h e0 e1 e4 e5 e9 e13 e17 e18 e23 e24 e25 b j n = absurd (e25 refl)
-row_limit (suc (suc (suc (suc (suc (suc (suc (suc (suc (suc (suc (suc (suc (suc (suc (suc (suc (suc (suc (suc (suc (suc (suc (suc (suc (suc i)))))))))))))))))))))))))) h e0 e1 e4 e5 e9 e13 e17 e18 e23 e24 e25 b j n = absurd (omega arith)
+narrow Sram a b c d e f = absurd (a refl)
+narrow StageRow a b c d e f = absurd (b refl)
+narrow Load a b c d e f = absurd (c refl)
+narrow Target a b c d e f = absurd (d refl)
+narrow Ee a b c d e f = absurd (e refl)
+narrow Id a b c d e f = absurd (f refl)
+narrow _ a b c d e f = refl
+
+-- those of one line,
+pub short : (r : Name) (b : List ℕ) → r ≢ Reg → r ≢ Sram → r ≢ Ee → r ≢ Id → 1 ≡ (row_of r).lines b
+unfolding row_at rows part_row register_row sram_row divider_row startup_row watchdog_row delay_row pulse_row power_row mark_row wel_row protection_row lock_row stage_row offsets_row load_row next_row target_row left_row eeprom_row id_row evls_row evhs_row edges_row since_row debounce_row
+short Reg b c d e f = absurd (c refl)
+short Sram b c d e f = absurd (d refl)
+short Ee b c d e f = absurd (e refl)
+short Id b c d e f = absurd (f refl)
+short _ b c d e f = refl
+
+-- those without a line's number after the key, and with it,
+pub bare : (r : Name) → r ≢ Reg → r ≢ Sram → r ≢ Ee → r ≢ Id → false ≡ (row_of r).numbered
+unfolding row_at rows part_row register_row sram_row divider_row startup_row watchdog_row delay_row pulse_row power_row mark_row wel_row protection_row lock_row stage_row offsets_row load_row next_row target_row left_row eeprom_row id_row evls_row evhs_row edges_row since_row debounce_row
+bare Reg b c d e = absurd (b refl)
+bare Sram b c d e = absurd (c refl)
+bare Ee b c d e = absurd (d refl)
+bare Id b c d e = absurd (e refl)
+bare _ b c d e = refl
+
+pub numbered : {r : Name} → (r ≡ Reg) ⊎ ((r ≡ Sram) ⊎ ((r ≡ Ee) ⊎ (r ≡ Id))) → true ≡ (row_of r).numbered
+unfolding row_at rows part_row register_row sram_row divider_row startup_row watchdog_row delay_row pulse_row power_row mark_row wel_row protection_row lock_row stage_row offsets_row load_row next_row target_row left_row eeprom_row id_row evls_row evhs_row edges_row since_row debounce_row
+numbered (inl e) = rw e refl
+numbered (inr (inl e)) = rw e refl
+numbered (inr (inr (inl e))) = rw e refl
+numbered (inr (inr (inr e))) = rw e refl
+
+-- and those of bytes. Each has its place in the table.
+pub byte_rows :
+    (b : List ℕ) (j n : ℕ) {r : Name} → (r ≡ Sram) ⊎ ((r ≡ Offsets) ⊎ ((r ≡ Load) ⊎ ((r ≡ Ee) ⊎ (r ≡ Id)))) → ltb n 256 ≡ (row_of r).good b j n
+unfolding row_at rows part_row register_row sram_row divider_row startup_row watchdog_row delay_row pulse_row power_row mark_row wel_row protection_row lock_row stage_row offsets_row load_row next_row target_row left_row eeprom_row id_row evls_row evhs_row edges_row since_row debounce_row
+byte_rows b j n (inl e) = rw e refl
+byte_rows b j n (inr (inl e)) = rw e refl
+byte_rows b j n (inr (inr (inl e))) = rw e refl
+byte_rows b j n (inr (inr (inr (inl e)))) = rw e refl
+byte_rows b j n (inr (inr (inr (inr e)))) = rw e refl
+
+abbrev pub names : List Name
+names = PartRow ∷ Reg ∷ Sram ∷ Divider ∷ Startup ∷ Watchdog ∷ Delay ∷ Pulse ∷ Power ∷ Mark ∷ Wel ∷ Bp ∷ Lock ∷ StageRow ∷ Offsets ∷ Load ∷ Next ∷ Target ∷ Left ∷ Ee ∷ Id ∷ Evls ∷ Evhs ∷ Edges ∷ Since ∷ Debounce ∷ []
+
+pub row_here : (d : Name) (i : ℕ) → i < row_count → row_of (get_or names i d) ≡ row_at i
+unfolding every
+row_here d i h = ap row_at (eqb-true _ _ (every_at (λ (k : ℕ). eqb (row_place (get_or names k d)) k) 26 refl i h))
+
+pub row_in : (r : Name) → row_place r < row_count
+row_in Reg = omega arith
+row_in _ = omega arith
 
 -- Kind and case of a stage as bytes: one that is no byte is no number of theirs, and neither is 255.
 off : (n : ℕ) → ltb n 256 ≡ false → (i : ℕ) → ltb i 256 ≡ true → eqb n i ≡ false
@@ -215,49 +236,3 @@ case_code k n l e h f g =
 
 pub case_byte : (k n l : ℕ) → l ≡ case_limit k → n < l → k ≡ 3 → n < 256
 case_byte k n l e h f = subst (λ (m : ℕ). n < m) (e ∙ ap case_limit f) h
-
--- the rows whose limit depends on other numbers
-module _ (i : ℕ) (b : List ℕ) (j n : ℕ) where
-  pub part_good : i ≡ 0 → is_part n ≡ (row_at i).good b j n
-  unfolding row_at rows part_row
-  part_good e = ap (λ (k : ℕ). (row_at k).good b j n) (sym e)
-
-  pub register_good_lem : i ≡ 1 → register_good j n ≡ (row_at i).good b j n
-  unfolding row_at rows register_row
-  register_good_lem e = ap (λ (k : ℕ). (row_at k).good b j n) (sym e)
-
-  pub startup_good : i ≡ 4 → ltb n (startup_limit b) ≡ (row_at i).good b j n
-  unfolding row_at rows startup_row
-  startup_good e = ap (λ (k : ℕ). (row_at k).good b j n) (sym e)
-
-  pub watchdog_good : i ≡ 5 → ltb n (period_of (register_in b watchdog_at)) ≡ (row_at i).good b j n
-  unfolding row_at rows watchdog_row
-  watchdog_good e = ap (λ (k : ℕ). (row_at k).good b j n) (sym e)
-
-  pub mark_good : i ≡ 9 → ltb n (mark_limit b) ≡ (row_at i).good b j n
-  unfolding row_at rows mark_row
-  mark_good e = ap (λ (k : ℕ). (row_at k).good b j n) (sym e)
-
-  pub stage_good_lem : i ≡ 13 → stage_good b j n ≡ (row_at i).good b j n
-  unfolding row_at rows stage_row
-  stage_good_lem e = ap (λ (k : ℕ). (row_at k).good b j n) (sym e)
-
-  pub target_good_lem : i ≡ 17 → target_good b j n ≡ (row_at i).good b j n
-  unfolding row_at rows target_row
-  target_good_lem e = ap (λ (k : ℕ). (row_at k).good b j n) (sym e)
-
-  pub left_good : i ≡ 18 → ltb n (left_limit b) ≡ (row_at i).good b j n
-  unfolding row_at rows left_row
-  left_good e = ap (λ (k : ℕ). (row_at k).good b j n) (sym e)
-
-  pub edges_good : i ≡ 23 → ltb n (edges_by (register_in b event_at)) ≡ (row_at i).good b j n
-  unfolding row_at rows edges_row
-  edges_good e = ap (λ (k : ℕ). (row_at k).good b j n) (sym e)
-
-  pub since_good : i ≡ 24 → ltb n (since_by (get_or b (chip_events b + 2) 0)) ≡ (row_at i).good b j n
-  unfolding row_at rows since_row
-  since_good e = ap (λ (k : ℕ). (row_at k).good b j n) (sym e)
-
-  pub debounce_good : i ≡ 25 → ltb n (debounce_by (register_in b event_at) (get_or b (chip_events b) 0)) ≡ (row_at i).good b j n
-  unfolding row_at rows debounce_row
-  debounce_good e = ap (λ (k : ℕ). (row_at k).good b j n) (sym e)

@@ -6,54 +6,133 @@ ghost use Rattle.record.specs.Registers.{event_at, period_of};
 ghost use Rattle.record.specs.Numbers.{stage_of};
 ghost use Rattle.record.specs.Stages.{foreign_to_wip};
 ghost use Rattle.form.specs.Table.{register_in, chip_events, register_good, startup_by, mark_by, kind_by, case_limit, case_good, address_limit, value_limit, target_limit, left_by, edges_by, since_by, debounce_by, stage_good, target_good};
-ghost use Rattle.numbers.specs.Tables.{row_at, row_count, number_limit};
+ghost use Rattle.numbers.specs.declared.table.Row.TheVariants.{Reg};
+ghost use Rattle.numbers.specs.Tables.{row_of};
 
 use detect::control;
 use record::{ClockAddress, part, registers, stages};
 
-// How many rows the table has, and how many numbers a part of 2 Kbit.
-pub const ROWS: usize = 26;
-
+// How many numbers a part of 2 Kbit has.
 pub const NUMBERS: usize = 400;
 
-const WIDTHS: [usize; ROWS] = [
-    1, 1, 8, 1, 1, 1, 1, 1, 1, 1, 1, 1, 1, 3, 1, 8, 1, 2, 1, 8, 8, 1, 1, 1, 1, 1,
-];
+// A row of the table by its key, in the table's order.
+#[derive(Clone, Copy, PartialEq, Eq)]
+pub enum Row {
+    Part,
+    Reg,
+    Sram,
+    Divider,
+    Startup,
+    Watchdog,
+    Delay,
+    Pulse,
+    Power,
+    Mark,
+    Wel,
+    Bp,
+    Lock,
+    Stage,
+    Offsets,
+    Load,
+    Next,
+    Target,
+    Left,
+    Ee,
+    Id,
+    Evls,
+    Evhs,
+    Edges,
+    Since,
+    Debounce,
+}
 
-const LINES: [usize; ROWS] = [
-    1, 32, 8, 1, 1, 1, 1, 1, 1, 1, 1, 1, 1, 1, 1, 1, 1, 1, 1, 0, 2, 1, 1, 1, 1, 1,
-];
-
-const EEPROM: usize = 19;
-
-// What a number of a row is less than, where that depends on no other; else 0.
-const LIMITS: [u64; ROWS] = [
-    0, 0, 256, 32768, 0, 0, 2097153, 4097, 2, 0, 2, 4, 3, 0, 256, 256, 8, 0, 0, 256, 256, 2, 2, 0,
-    0, 0,
+// The rows in their order.
+pub const ROWS: [Row; 26] = [
+    Row::Part,
+    Row::Reg,
+    Row::Sram,
+    Row::Divider,
+    Row::Startup,
+    Row::Watchdog,
+    Row::Delay,
+    Row::Pulse,
+    Row::Power,
+    Row::Mark,
+    Row::Wel,
+    Row::Bp,
+    Row::Lock,
+    Row::Stage,
+    Row::Offsets,
+    Row::Load,
+    Row::Next,
+    Row::Target,
+    Row::Left,
+    Row::Ee,
+    Row::Id,
+    Row::Evls,
+    Row::Evhs,
+    Row::Edges,
+    Row::Since,
+    Row::Debounce,
 ];
 
 // How many cases a stage has, by its kind.
 const CASES: [u64; 8] = [1, 1, 1, 256, 3, 3, 4, 6];
 
-// How many numbers are on a line of a row.
-pub fn width(row: usize) -> usize
-    requires { row < row_count }
-    ensures { result ≡ (row_at row).width }
-{
-    let widths = WIDTHS;
-    widths[row]
-}
-
-// How many lines a row has, by the part.
-pub fn lines(row: usize, part: u64) -> usize
-    requires { row < row_count }
-    ensures { result ≡ (row_at row).lines (part ∷ []) }
-{
-    if row == EEPROM {
-        return (part::size(part) / 8) as usize;
+#[tactic(auto, unfolding(crate::specs::Tables::row_at, form::specs::Table::rows, form::specs::Table::part_row, form::specs::Table::register_row, form::specs::Table::sram_row, form::specs::Table::divider_row, form::specs::Table::startup_row, form::specs::Table::watchdog_row, form::specs::Table::delay_row, form::specs::Table::pulse_row, form::specs::Table::power_row, form::specs::Table::mark_row, form::specs::Table::wel_row, form::specs::Table::protection_row, form::specs::Table::lock_row, form::specs::Table::stage_row, form::specs::Table::offsets_row, form::specs::Table::load_row, form::specs::Table::next_row, form::specs::Table::target_row, form::specs::Table::left_row, form::specs::Table::eeprom_row, form::specs::Table::id_row, form::specs::Table::evls_row, form::specs::Table::evhs_row, form::specs::Table::edges_row, form::specs::Table::since_row, form::specs::Table::debounce_row))]
+impl Row {
+    // How many numbers are on a line of the row.
+    pub fn width(self) -> usize
+        ensures { result ≡ (row_of self).width }
+    {
+        match self {
+            Row::Sram | Row::Load | Row::Ee | Row::Id => 8,
+            Row::Stage => 3,
+            Row::Target => 2,
+            _ => 1,
+        }
     }
-    let lines = LINES;
-    lines[row]
+
+    // How many lines the row has, by the part.
+    pub fn lines(self, part: u64) -> usize
+        ensures { result ≡ (row_of self).lines (part ∷ []) }
+    {
+        match self {
+            Row::Reg => 32,
+            Row::Sram => 8,
+            Row::Ee => (part::size(part) / 8) as usize,
+            Row::Id => 2,
+            _ => 1,
+        }
+    }
+
+    // Whether n is good as number j of the row, after the numbers of the list; those that have not come are 0.
+    pub fn good(self, numbers: &[u64; NUMBERS], j: usize, n: u64) -> bool
+        requires { self ≡ Reg → j < 32 }
+        ensures { result ≡ (row_of self).good numbers.now j n }
+    {
+        match self {
+            Row::Part => part::is_part(n),
+            Row::Reg => register_good(j, n),
+            Row::Divider => n < 32768,
+            Row::Startup => n < startup_limit(numbers[0], numbers[2]),
+            Row::Watchdog => n < period(numbers[11]),
+            Row::Delay => n < 2097153,
+            Row::Pulse => n < 4097,
+            Row::Mark => n < mark_limit(numbers[102]),
+            Row::Bp => n < 4,
+            Row::Lock => n < 3,
+            Row::Stage => stage_good(numbers, j, n),
+            Row::Next => n < 8,
+            Row::Target => target_good(numbers, j, n),
+            Row::Left => n < left_limit(numbers[102], numbers[107], numbers[108]),
+            Row::Edges => n < edges_limit(numbers[12]),
+            Row::Since => since_good(numbers, n),
+            Row::Debounce => debounce_good(numbers, n),
+            Row::Power | Row::Wel | Row::Evls | Row::Evhs => n < 2,
+            Row::Sram | Row::Offsets | Row::Load | Row::Ee | Row::Id => n < 256,
+        }
+    }
 }
 
 // A register's byte: no bit outside its mask.
@@ -61,11 +140,10 @@ fn register_good(j: usize, n: u64) -> bool
     requires { j < 32 }
     ensures { result ≡ register_good j n }
 {
-    if 255 < n {
-        return false;
+    match u8::try_from(n) {
+        Ok(b) => (b & registers::kept_bits(ClockAddress(j as u8))) == b,
+        Err(_) => false,
     }
-    let b = n as u8;
-    (b & registers::kept_bits(ClockAddress(j as u8))) == b
 }
 
 // By the part and the byte of 01h.
@@ -99,10 +177,7 @@ pub fn period(v: u64) -> u64
 fn byte_of(n: u64) -> u8
     ensures { result ≡ pick (ltb n 256) n 255 }
 {
-    if 255 < n {
-        return 255;
-    }
-    n as u8
+    u8::try_from(n).unwrap_or(255)
 }
 
 // A frame that is not heard while a cycle runs, by the kind and the case of its stage.
@@ -116,39 +191,24 @@ fn foreign(kind: u64, which: u64) -> bool
 fn case_limit(kind: u64) -> u64
     ensures { result ≡ case_limit kind }
 {
-    if kind < 8 {
-        let cases = CASES;
-        return cases[kind as usize];
-    }
-    1
+    CASES.get(kind as usize).copied().unwrap_or(1)
 }
 
 pub fn case_good(kind: u64, n: u64) -> bool
     ensures { result ≡ case_good kind n }
 {
-    if case_limit(kind) <= n {
-        return false;
-    }
-    if kind != 3 {
-        return true;
-    }
-    if 255 < n {
-        return false;
-    }
-    let b = n as u8;
-    record::codes::code_of(b).number() == b
+    let b = byte_of(n);
+    (n < case_limit(kind)) & ((kind != 3) | (record::codes::code_of(b).number() == b))
 }
 
 fn address_limit(size: u64, memory: u64) -> u64
     ensures { result ≡ address_limit size memory }
 {
-    if memory == 0 {
-        return size;
+    match memory {
+        0 => size,
+        1 => 256,
+        _ => 16,
     }
-    if memory == 1 {
-        return 256;
-    }
-    16
 }
 
 pub fn value_limit(size: u64, kind: u64, which: u64) -> u64
@@ -163,39 +223,33 @@ pub fn value_limit(size: u64, kind: u64, which: u64) -> u64
     1
 }
 
-fn stage_good(numbers: &[u64], j: usize, n: u64) -> bool
-    requires { length numbers.now ≡ number_limit }
+fn stage_good(numbers: &[u64; NUMBERS], j: usize, n: u64) -> bool
     ensures { result ≡ stage_good numbers.now j n }
 {
-    if j == 0 {
-        return n < kind_limit(numbers[102]);
+    match j {
+        0 => n < kind_limit(numbers[102]),
+        1 => case_good(numbers[107], n),
+        _ => n < value_limit(part::size(numbers[0]) as u64, numbers[107], numbers[108]),
     }
-    if j == 1 {
-        return case_good(numbers[107], n);
-    }
-    n < value_limit(part::size(numbers[0]) as u64, numbers[107], numbers[108])
 }
 
 pub fn target_limit(size: u64, kind: u64) -> u64
     ensures { result ≡ target_limit size kind }
 {
-    if kind == 0 {
-        return size;
+    match kind {
+        0 => size,
+        1 => 16,
+        _ => 4,
     }
-    if kind == 1 {
-        return 16;
-    }
-    4
 }
 
-fn target_good(numbers: &[u64], j: usize, n: u64) -> bool
-    requires { length numbers.now ≡ number_limit }
+fn target_good(numbers: &[u64; NUMBERS], j: usize, n: u64) -> bool
     ensures { result ≡ target_good numbers.now j n }
 {
-    if j == 0 {
-        return n < 3;
+    match j {
+        0 => n < 3,
+        _ => n < target_limit(part::size(numbers[0]) as u64, numbers[120]),
     }
-    n < target_limit(part::size(numbers[0]) as u64, numbers[120])
 }
 
 // By power, and by the kind and the case of the stage.
@@ -242,44 +296,16 @@ pub fn events_from(part: u64) -> usize
     123 + part::size(part) as usize + 16
 }
 
-fn since_good(numbers: &[u64], n: u64) -> bool
-    requires { length numbers.now ≡ number_limit }
+fn since_good(numbers: &[u64; NUMBERS], n: u64) -> bool
     ensures { result ≡ ltb n (since_by (get_or numbers.now (chip_events numbers.now + 2) 0)) }
 {
     let from = events_from(numbers[0]);
     n < since_limit(numbers[from + 2])
 }
 
-fn debounce_good(numbers: &[u64], n: u64) -> bool
-    requires { length numbers.now ≡ number_limit }
+fn debounce_good(numbers: &[u64; NUMBERS], n: u64) -> bool
     ensures { result ≡ ltb n (debounce_by (register_in numbers.now event_at) (get_or numbers.now (chip_events numbers.now) 0)) }
 {
     let from = events_from(numbers[0]);
     n < debounce_limit(numbers[12], numbers[from])
-}
-
-// Whether n is good as number j of a row, after the numbers of the list; those that have not come are 0.
-pub fn good(row: usize, numbers: &[u64], j: usize, n: u64) -> bool
-    requires row_lt_row_count { row < row_count }
-    requires numbers_len { length numbers.now ≡ number_limit }
-    requires j_bound { row ≡ 1 → j < 32 }
-    ensures { result ≡ (row_at row).good numbers.now j n }
-{
-    match row {
-        0 => part::is_part(n),
-        1 => register_good(j, n),
-        4 => n < startup_limit(numbers[0], numbers[2]),
-        5 => n < period(numbers[11]),
-        9 => n < mark_limit(numbers[102]),
-        13 => stage_good(numbers, j, n),
-        17 => target_good(numbers, j, n),
-        18 => n < left_limit(numbers[102], numbers[107], numbers[108]),
-        23 => n < edges_limit(numbers[12]),
-        24 => since_good(numbers, n),
-        25 => debounce_good(numbers, n),
-        _ => {
-            let limits = LIMITS;
-            n < limits[row]
-        }
-    }
 }

@@ -1,46 +1,31 @@
 -- Laws of the keys as code has them, and of the head of a line in its small buffer.
 -- Assumes nothing.
-use mathlib.Core.Path.{◌≡◌, refl, ap, subst, ◌∙◌}
-use mathlib.Core.Bool.{Bool, ◌||◌}
+use mathlib.Core.Path.{◌≡◌, refl, ap, ◌∙◌}
+use mathlib.Core.Bool.{Bool}
 use mathlib.Core.List.{List, [], ◌∷◌, ◌++◌}
-use Prim.Native.Nat.{ℕ, ◌+◌, ◌*◌, ◌<◌, ◌≤◌}
+use Prim.Native.Nat.{ℕ, ◌+◌, ◌<◌, ◌≤◌}
 use native.Mathlib.Nat.{zero-add}
 use native.Mathlib.Omega.{arith}
-use lib.Dec.{eqb}
-use lib.ListN.{length, take, drop, get_or, length-append, length-take}
+use lib.ListN.{length, take, drop, length-append}
 use lib.Seq.{sets, sets-eq, take-append_seam}
 use Rattle.base.specs.Words.{pick, every}
 use Rattle.base.proofs.Tests.{pick_case}
-use Rattle.base.proofs.Every.{every_at, bound_below, same_test_below}
-use Rattle.text.specs.Bytes.{agreed, bytes_of, is_word}
+use Rattle.base.proofs.Every.{bound_below}
+use Rattle.text.specs.Bytes.{bytes_of}
 use Rattle.text.specs.Buffer.{Buffer, buffer, append}
 use Rattle.text.specs.Decimal.{decimal_text}
-use Rattle.text.proofs.BytesLaws.{is_word_lem}
 use Rattle.text.proofs.DecimalLaws.{decimal_places}
 use Rattle.form.specs.Lines.{equals}
 use Rattle.form.specs.Table.{rows, part_row, register_row, sram_row, divider_row, startup_row, watchdog_row, delay_row, pulse_row, power_row, mark_row, wel_row, protection_row, lock_row, stage_row, offsets_row, load_row, next_row, target_row, left_row, eeprom_row, id_row, evls_row, evhs_row, edges_row, since_row, debounce_row}
 use Rattle.numbers.specs.Tables.{row_at, row_count}
-use Rattle.saved.specs.Keys.{key_bytes, key_lengths}
-
-pub numbered_is : (i : ℕ) → i < row_count → (eqb i 1 || eqb i 2 || eqb i 19 || eqb i 20) ≡ (row_at i).numbered
-unfolding every row_at rows part_row register_row sram_row divider_row startup_row watchdog_row delay_row pulse_row power_row mark_row wel_row protection_row lock_row stage_row offsets_row load_row next_row target_row left_row eeprom_row id_row evls_row evhs_row edges_row since_row debounce_row
-numbered_is i h = same_test_below (λ (k : ℕ). eqb k 1 || eqb k 2 || eqb k 19 || eqb k 20) (λ (k : ℕ). (row_at k).numbered) 26 refl i h
-
-pub key_is : (i : ℕ) → i < row_count → take (get_or key_lengths i 0) (drop (i * 8) key_bytes) ≡ bytes_of (row_at i).key
-unfolding every agreed row_at rows part_row register_row sram_row divider_row startup_row watchdog_row delay_row pulse_row power_row mark_row wel_row protection_row lock_row stage_row offsets_row load_row next_row target_row left_row eeprom_row id_row evls_row evhs_row edges_row since_row debounce_row
-key_is i h =
-    is_word_lem (bytes_of (row_at i).key) (take (get_or key_lengths i 0) (drop (i * 8) key_bytes))
-    (every_at (λ (k : ℕ). is_word (bytes_of (row_at k).key) (take (get_or key_lengths k 0) (drop (k * 8) key_bytes))) 26 refl i h)
 
 -- a key has at most eight letters, a line's number at most two digits
 pub key_short : (i : ℕ) → i < row_count → length (bytes_of (row_at i).key) ≤ 8
-unfolding every
-key_short i h =
-    let l : get_or key_lengths i 0 < 9 = bound_below (λ (k : ℕ). get_or key_lengths k 0) 9 26 refl i h in
-    subst (λ (x : List ℕ). length x ≤ 8) (key_is i h) (short (get_or key_lengths i 0) (drop (i * 8) key_bytes) l)
+unfolding every row_at rows part_row register_row sram_row divider_row startup_row watchdog_row delay_row pulse_row power_row mark_row wel_row protection_row lock_row stage_row offsets_row load_row next_row target_row left_row eeprom_row id_row evls_row evhs_row edges_row since_row debounce_row
+key_short i h = under (bound_below (λ (k : ℕ). length (bytes_of (row_at k).key)) 9 26 refl i h)
   where
-    short : (n : ℕ) (x : List ℕ) → n < 9 → length (take n x) ≤ 8
-    short n x l = omega (arith, l, length-take n x)
+    under : {n : ℕ} → n < 9 → n ≤ 8
+    under l = omega (arith, l)
 
 pub index_short : (t : Bool) (i : ℕ) → i < 100 → length (pick t (decimal_text i) []) ≤ 2
 index_short t i h = pick_case (λ (l : List ℕ). length l ≤ 2) t (decimal_places 1 i h) (omega arith)

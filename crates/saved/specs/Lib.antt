@@ -1,4 +1,3 @@
 pub mod Reading
 pub mod Place
-pub mod Keys
 pub mod Answer

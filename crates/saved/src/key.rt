@@ -6,41 +6,19 @@ ghost use Rattle.text.specs.Bytes.{bytes_of};
 ghost use Rattle.text.specs.Decimal.{decimal_text};
 ghost use Rattle.form.specs.Lines.{head_of};
 ghost use Rattle.form.specs.Table.{key_of};
-ghost use Rattle.numbers.specs.Tables.{row_at, row_count};
-ghost use Rattle.saved.specs.Keys.{key_bytes};
+ghost use Rattle.numbers.specs.Tables.{row_of};
 
-use text::{buffer, bytes, decimal};
-
-const ROWS: usize = numbers::table::ROWS;
+use numbers::table::Row;
+use text::{buffer, decimal};
 
 // The longest head: a key of eight letters or a shorter one with its number, and `=`.
 pub const HEAD_LIMIT: usize = 12;
 
-// Eight bytes for each row.
-const KEYS: [u8; 208] = [
-    b'p', b'a', b'r', b't', 0, 0, 0, 0, b'r', b'e', b'g', 0, 0, 0, 0, 0, b's', b'r', b'a', b'm', 0,
-    0, 0, 0, b'd', b'i', b'v', b'i', b'd', b'e', b'r', 0, b's', b't', b'a', b'r', b't', b'u', b'p',
-    0, b'w', b'a', b't', b'c', b'h', b'd', b'o', b'g', b'd', b'e', b'l', b'a', b'y', 0, 0, 0, b'p',
-    b'u', b'l', b's', b'e', 0, 0, 0, b'p', b'o', b'w', b'e', b'r', 0, 0, 0, b'm', b'a', b'r', b'k',
-    0, 0, 0, 0, b'w', b'e', b'l', 0, 0, 0, 0, 0, b'b', b'p', 0, 0, 0, 0, 0, 0, b'l', b'o', b'c',
-    b'k', 0, 0, 0, 0, b's', b't', b'a', b'g', b'e', 0, 0, 0, b'o', b'f', b'f', b's', b'e', b't',
-    b's', 0, b'l', b'o', b'a', b'd', 0, 0, 0, 0, b'n', b'e', b'x', b't', 0, 0, 0, 0, b't', b'a',
-    b'r', b'g', b'e', b't', 0, 0, b'l', b'e', b'f', b't', 0, 0, 0, 0, b'e', b'e', 0, 0, 0, 0, 0, 0,
-    b'i', b'd', 0, 0, 0, 0, 0, 0, b'e', b'v', b'l', b's', 0, 0, 0, 0, b'e', b'v', b'h', b's', 0, 0,
-    0, 0, b'e', b'd', b'g', b'e', b's', 0, 0, 0, b's', b'i', b'n', b'c', b'e', 0, 0, 0, b'd', b'e',
-    b'b', b'o', b'u', b'n', b'c', b'e',
-];
-
-const LENGTHS: [usize; ROWS] = [
-    4, 3, 4, 7, 7, 8, 5, 5, 5, 4, 3, 2, 4, 5, 7, 4, 4, 6, 4, 2, 2, 4, 4, 5, 5, 8,
-];
-
 // Rows of several lines.
-fn is_numbered(row: usize) -> bool
-    requires { row < row_count }
-    ensures { result ≡ (row_at row).numbered }
+fn is_numbered(row: Row) -> bool
+    ensures { result ≡ (row_of row).numbered }
 {
-    (row == 1) | (row == 2) | (row == 19) | (row == 20)
+    matches!(row, Row::Reg | Row::Sram | Row::Ee | Row::Id)
 }
 
 fn put_index(numbered: bool, i: u64, into: &mut [u8], at: usize) -> usize
@@ -54,25 +32,46 @@ fn put_index(numbered: bool, i: u64, into: &mut [u8], at: usize) -> usize
     at
 }
 
-// The key of a row, of all keys.
-fn key_of(row: usize, keys: &[u8]) -> &[u8]
-    requires row_lt_row_count { row < row_count }
-    requires keys_value { keys.now ≡ key_bytes }
-    ensures { result.now ≡ bytes_of (row_at row).key }
+// The key of a row.
+fn key_of(row: Row) -> &'static [u8]
+    ensures { result.now ≡ bytes_of (row_of row).key }
 {
-    let lengths = LENGTHS;
-    bytes::first(bytes::rest(keys, row * 8), lengths[row])
+    match row {
+        Row::Part => b"part",
+        Row::Reg => b"reg",
+        Row::Sram => b"sram",
+        Row::Divider => b"divider",
+        Row::Startup => b"startup",
+        Row::Watchdog => b"watchdog",
+        Row::Delay => b"delay",
+        Row::Pulse => b"pulse",
+        Row::Power => b"power",
+        Row::Mark => b"mark",
+        Row::Wel => b"wel",
+        Row::Bp => b"bp",
+        Row::Lock => b"lock",
+        Row::Stage => b"stage",
+        Row::Offsets => b"offsets",
+        Row::Load => b"load",
+        Row::Next => b"next",
+        Row::Target => b"target",
+        Row::Left => b"left",
+        Row::Ee => b"ee",
+        Row::Id => b"id",
+        Row::Evls => b"evls",
+        Row::Evhs => b"evhs",
+        Row::Edges => b"edges",
+        Row::Since => b"since",
+        Row::Debounce => b"debounce",
+    }
 }
 
 // Puts the head of line i of a row; its length is answered.
-pub fn put_head(row: usize, i: u64, into: &mut [u8]) -> usize
-    requires row_lt_row_count { row < row_count }
-    requires i_bound { i < 100 }
-    requires into_len { length into.old ≡ 12 }
-    ensures { take result into.new ≡ head_of (key_of (row_at row) i) }
+pub fn put_head(row: Row, i: u64, into: &mut [u8; HEAD_LIMIT]) -> usize
+    requires { i < 100 }
+    ensures { take result into.new ≡ head_of (key_of (row_of row) i) }
 {
-    let keys = KEYS;
-    let key = key_of(row, &keys);
+    let key = key_of(row);
     let numbered = is_numbered(row);
     let a = buffer::put(key, into, 0);
     let b = put_index(numbered, i, into, a);

@@ -4,11 +4,11 @@ ghost use Rattle.text.specs.Buffer.{buffer, append};
 ghost use Rattle.form.specs.Lines.{line_text};
 ghost use Rattle.form.specs.Table.{key_of, row_text, span};
 ghost use Rattle.form.specs.Chip.{IsChip, form_text};
-ghost use Rattle.numbers.specs.Tables.{row_at, row_count};
+ghost use Rattle.numbers.specs.Tables.{row_of};
 ghost use Rattle.saved.specs.Reading.{run_text};
 
 use crate::{key, scan};
-use numbers::table;
+use numbers::table::{self, Row};
 use text::{buffer, bytes, decimal};
 
 // The numbers of a line, each with the byte after it.
@@ -18,19 +18,17 @@ fn put_numbers(numbers: &[u64], from: usize, width: usize, into: &mut [u8], at: 
     ensures { buffer into.new result ≡ append (buffer into.old at) (run_text (take width (drop from numbers.now))) }
 {
     let mut end = at;
-    let mut j: usize = 0;
-    while j < width {
+    for j in 0..width {
         let digits = decimal::put_decimal(numbers[from + j], into, end);
         let mark = scan::mark_after(j, width);
         end = buffer::put_byte(mark, into, digits);
-        j += 1;
     }
     end
 }
 
 // Line i of a row.
 fn put_line(
-    row: usize,
+    row: Row,
     i: usize,
     numbers: &[u64],
     from: usize,
@@ -38,12 +36,11 @@ fn put_line(
     into: &mut [u8],
     at: usize,
 ) -> usize
-    requires row_lt_row_count { row < row_count }
     requires i_bound { i < 32 }
     requires width_nonzero { 0 < width }
     requires width_in_bounds { from + width ≤ length numbers.now }
-    requires numbers_in_bounds { at + length (line_text (key_of (row_at row) i) (take width (drop from numbers.now))) ≤ length into.old }
-    ensures { buffer into.new result ≡ append (buffer into.old at) (line_text (key_of (row_at row) i) (take width (drop from numbers.now))) }
+    requires numbers_in_bounds { at + length (line_text (key_of (row_of row) i) (take width (drop from numbers.now))) ≤ length into.old }
+    ensures { buffer into.new result ≡ append (buffer into.old at) (line_text (key_of (row_of row) i) (take width (drop from numbers.now))) }
 {
     let mut head = [0u8; key::HEAD_LIMIT];
     let n = key::put_head(row, i as u64, &mut head);
@@ -53,27 +50,24 @@ fn put_line(
 
 // The lines of a row.
 fn put_row(
-    row: usize,
+    row: Row,
     lines: usize,
     numbers: &[u64],
     from: usize,
     into: &mut [u8],
     at: usize,
 ) -> usize
-    requires row_lt_row_count { row < row_count }
     requires lines_bound { lines ≤ 32 }
-    requires row_in_bounds { from + lines * (row_at row).width ≤ length numbers.now }
-    requires numbers_in_bounds { at + length (row_text (row_at row) lines 0 from numbers.now) ≤ length into.old }
-    ensures { buffer into.new result ≡ append (buffer into.old at) (row_text (row_at row) lines 0 from numbers.now) }
+    requires row_in_bounds { from + lines * (row_of row).width ≤ length numbers.now }
+    requires numbers_in_bounds { at + length (row_text (row_of row) lines 0 from numbers.now) ≤ length into.old }
+    ensures { buffer into.new result ≡ append (buffer into.old at) (row_text (row_of row) lines 0 from numbers.now) }
 {
-    let width = table::width(row);
+    let width = row.width();
     let mut end = at;
     let mut place = from;
-    let mut i: usize = 0;
-    while i < lines {
+    for i in 0..lines {
         end = put_line(row, i, numbers, place, width, into, end);
         place += width;
-        i += 1;
     }
     end
 }
@@ -87,13 +81,10 @@ pub fn put_rows(numbers: &[u64], into: &mut [u8]) -> usize
     let part = numbers[0];
     let mut end: usize = 0;
     let mut place: usize = 0;
-    let mut row: usize = 0;
-    while row < table::ROWS {
-        let lines = table::lines(row, part);
-        let width = table::width(row);
-        end = put_row(row, lines, numbers, place, into, end);
-        place += lines * width;
-        row += 1;
+    for row in &table::ROWS {
+        let lines = row.lines(part);
+        end = put_row(*row, lines, numbers, place, into, end);
+        place += lines * row.width();
     }
     end
 }

@@ -1,12 +1,13 @@
 // A text read by the table into a list of numbers: the numbers of a line, the lines of a row, the rows. What has not come is 0.
 ghost use Rattle.std.specs.Prelude.{◌≡◌, List, [], ◌++◌, ℕ, ◌+◌, ◌*◌, ◌<◌, ◌≤◌, length, take};
 ghost use Rattle.form.specs.Table.{good_after, span};
-ghost use Rattle.numbers.specs.Tables.{row_at, row_count, number_limit};
+ghost use Rattle.numbers.specs.declared.table.Row.TheVariants.{Reg};
+ghost use Rattle.numbers.specs.Tables.{row_count, number_limit, row_of};
 ghost use Rattle.saved.specs.Reading.{got, run_of, line_read};
 ghost use Rattle.saved.specs.Place.{reading_at, filled, Holds, RowRead, rows_in, most, RowsRead, TextRead};
 
 use crate::{Place, key, scan};
-use numbers::table;
+use numbers::table::{self, Row};
 use text::bytes;
 
 // The first row of the event inputs.
@@ -30,34 +31,31 @@ pub struct Read {
 fn read_numbers(
     text: &[u8],
     p: Place,
-    row: usize,
+    row: Row,
     first: usize,
     width: usize,
-    numbers: &mut [u64],
+    numbers: &mut [u64; table::NUMBERS],
     count: usize,
 ) -> Line
-    requires row_lt_row_count { row < row_count }
     requires width_bound { count + width ≤ number_limit }
     requires width_bound_2 { first + width ≤ 1000 }
-    requires width_bound_3 { row ≡ 1 → first + width ≤ 32 }
+    requires width_bound_3 { row ≡ Reg → first + width ≤ 32 }
     requires holds { Holds numbers.old count }
     ensures numbers_after { numbers.new ≡ filled (take count numbers.old ++ (run_of width (reading_at text.now p)).numbers) }
     ensures place_value { reading_at text.now result.place ≡ (run_of width (reading_at text.now p)).after }
-    ensures good_value { result.good ≡ good_after (row_at row) (take count numbers.old) first (run_of width (reading_at text.now p)).numbers }
+    ensures good_value { result.good ≡ good_after (row_of row) (take count numbers.old) first (run_of width (reading_at text.now p)).numbers }
 {
     let mut place = p;
     let mut good = true;
-    let mut j: usize = 0;
-    while j < width {
+    for j in 0..width {
         let found = scan::number_at(text, place);
         let value = found.value;
-        let passes = table::good(row, numbers, first + j, value);
+        let passes = row.good(numbers, first + j, value);
         numbers[count + j] = value;
         good = good & passes;
         let next = found.place;
         let mark = scan::mark_after(j, width);
         place = scan::past_byte(text, next, mark);
-        j += 1;
     }
     Line { place, good }
 }
@@ -66,20 +64,19 @@ fn read_numbers(
 fn read_line(
     text: &[u8],
     p: Place,
-    row: usize,
+    row: Row,
     i: usize,
     width: usize,
-    numbers: &mut [u64],
+    numbers: &mut [u64; table::NUMBERS],
     count: usize,
 ) -> Place
-    requires row_lt_row_count { row < row_count }
-    requires width_value { width ≡ (row_at row).width }
+    requires width_value { width ≡ (row_of row).width }
     requires width_bound { count + width ≤ number_limit }
     requires i_bound { i < 32 }
     requires lines_le_count { p.lines ≤ count }
     requires holds { Holds numbers.old count }
-    ensures numbers_after { numbers.new ≡ filled (line_read (row_at row) i (got (take count numbers.old) (reading_at text.now p))).numbers }
-    ensures result_value { reading_at text.now result ≡ (line_read (row_at row) i (got (take count numbers.old) (reading_at text.now p))).after }
+    ensures numbers_after { numbers.new ≡ filled (line_read (row_of row) i (got (take count numbers.old) (reading_at text.now p))).numbers }
+    ensures result_value { reading_at text.now result ≡ (line_read (row_of row) i (got (take count numbers.old) (reading_at text.now p))).after }
     ensures lines_bound { result.lines ≤ p.lines + 1 }
 {
     let mut head = [0u8; key::HEAD_LIMIT];
@@ -91,22 +88,25 @@ fn read_line(
 }
 
 // The lines of a row.
-fn read_row(text: &[u8], p: Place, row: usize, numbers: &mut [u64], count: usize) -> Read
-    requires row_lt_row_count { row < row_count }
-    requires numbers_bound { count + span (row_at row) (take count numbers.old) ≤ number_limit }
+fn read_row(
+    text: &[u8],
+    p: Place,
+    row: Row,
+    numbers: &mut [u64; table::NUMBERS],
+    count: usize,
+) -> Read
+    requires numbers_bound { count + span (row_of row) (take count numbers.old) ≤ number_limit }
     requires lines_le_count { p.lines ≤ count }
     requires holds { Holds numbers.old count }
-    ensures { RowRead (row_at row) (got (take count numbers.old) (reading_at text.now p)) numbers.new (reading_at text.now result.place) result.count }
+    ensures { RowRead (row_of row) (got (take count numbers.old) (reading_at text.now p)) numbers.new (reading_at text.now result.place) result.count }
 {
-    let width = table::width(row);
-    let lines = table::lines(row, numbers[0]);
+    let width = row.width();
+    let lines = row.lines(numbers[0]);
     let mut place = p;
     let mut at = count;
-    let mut i: usize = 0;
-    while i < lines {
+    for i in 0..lines {
         place = read_line(text, place, row, i, width, numbers, at);
         at += width;
-        i += 1;
     }
     Read { place, count: at }
 }
@@ -117,7 +117,7 @@ fn read_between(
     p: Place,
     first: usize,
     end: usize,
-    numbers: &mut [u64],
+    numbers: &mut [u64; table::NUMBERS],
     count: usize,
 ) -> Read
     requires first_le_end { first ≤ end }
@@ -129,19 +129,18 @@ fn read_between(
 {
     let mut place = p;
     let mut at = count;
-    let mut row = first;
-    while row < end {
+    for i in first..end {
+        let row = table::ROWS[i];
         let read = read_row(text, place, row, numbers, at);
         at = read.count;
         let next = read.place;
         place = next;
-        row += 1;
     }
     Read { place, count: at }
 }
 
 // A whole text into an empty list. One that ends before the event inputs has them at 0, as the array has.
-pub fn read_rows(text: &[u8], numbers: &mut [u64]) -> Read
+pub fn read_rows(text: &[u8], numbers: &mut [u64; table::NUMBERS]) -> Read
     requires { numbers.old ≡ filled [] }
     ensures { TextRead text.now numbers.new (reading_at text.now result.place) result.count }
 {
@@ -153,7 +152,7 @@ pub fn read_rows(text: &[u8], numbers: &mut [u64]) -> Read
     let older = read_between(text, begun, 0, EVENTS, numbers, 0);
     let place = older.place;
     if place.stopped | (place.at < text.len()) {
-        return read_between(text, place, EVENTS, table::ROWS, numbers, older.count);
+        return read_between(text, place, EVENTS, table::ROWS.len(), numbers, older.count);
     }
     Read {
         place,

@@ -1,37 +1,24 @@
 -- `saved::put::put_line`: its head, then its numbers (`line_text_lem`).
 -- Assumes nothing.
-use native.Mathlib.Omega.{arith}
-use mathlib.Core.Path.{refl, sym, ap, subst, ◌∙◌}
+use mathlib.Core.Path.{sym, ap, subst, ◌∙◌}
 use mathlib.Core.List.{List}
-use Prim.Native.Nat.{ℕ, ◌+◌, ◌≤◌, ◌<◌}
+use Prim.Native.Nat.{ℕ, ◌+◌, ◌≤◌}
 use lib.ListN.{length, take, drop}
 use Rattle.text.specs.Buffer.{buffer, append}
 use Rattle.text.proofs.BufferLaws.{put_then, room_then, room_before}
 use Rattle.form.specs.Lines.{head_of}
 use Rattle.form.specs.Table.{key_of}
-use Rattle.numbers.specs.Tables.{row_at}
+use Rattle.numbers.specs.Tables.{row_of}
 use Rattle.saved.specs.Reading.{run_text}
 use Rattle.saved.proofs.PutLaws.{line_split, split_room}
 use Rattle.saved.proofs.put.put_line.Goals as goal
-
-under : {n : ℕ} → n < 32 → n < 100
-under p = omega (arith, p)
-
-pub put_head-n-requires : goal.put_head-n-requires
-put_head-n-requires c =
-    let h = c.requires in
-    record {
-      row_lt_row_count = h.row_lt_row_count;
-      i_bound = under h.i_bound;
-      into_len = refl;
-    }
 
 pub put-begun-requires : goal.put-begun-requires
 put-begun-requires c =
     let a = c.args in
     let h = c.requires in
     let ns = a.numbers.now in
-    let r = row_at a.row in
+    let r = row_of a.row in
     let n = length a.into.now in
     subst (λ (l : List ℕ). a.at + length l ≤ n) (sym (c.first.ensures ∙ c.put_head-n.ensures))
     (room_before a.at (head_of (key_of r a.i)) (run_text (take a.width (drop a.from ns)))
@@ -43,7 +30,7 @@ put_numbers-requires c =
     let h = c.requires in
     let o = buffer a.into.now a.at in
     let ns = a.numbers.now in
-    let r = row_at a.row in
+    let r = row_of a.row in
     let q = split_room r a.i ns a.from a.width h.width_in_bounds h.width_nonzero a.at (length a.into.now) h.numbers_in_bounds in
     record {
       width_in_bounds = h.width_in_bounds;
@@ -56,7 +43,7 @@ returns c =
     let h = c.requires in
     let o = buffer a.into.now a.at in
     let ns = a.numbers.now in
-    let r = row_at a.row in
+    let r = row_of a.row in
     put_then o (head_of (key_of r a.i)) (run_text (take a.width (drop a.from ns)))
     (c.put-begun.ensures ∙ ap (append o) (c.first.ensures ∙ c.put_head-n.ensures))
     c.put_numbers.ensures ∙ ap (append o) (line_split r a.i ns a.from a.width h.width_in_bounds h.width_nonzero)

@@ -19,23 +19,7 @@ loop-j-init c =
     let o = buffer a.into.now a.at in
     let ns = a.numbers.now in
     let y = take a.width (drop a.from ns) in
-    (omega arith, refl, part_none o (run_text y))
-
-pub overflow_add-from : goal.overflow_add-from
-overflow_add-from c =
-    let h = c.requires in
-    record { fits = omega arith }
-
-pub offset_bounds-numbers-from : goal.offset_bounds-numbers-from
-offset_bounds-numbers-from c =
-    let h = c.requires in
-    record { fits = omega arith }
-
-pub bounds-numbers-from : goal.bounds-numbers-from
-bounds-numbers-from c =
-    let h = c.requires in
-    let t = c.loop-j-test.true in
-    omega (arith, h.width_in_bounds, t)
+    (refl, part_none o (run_text y))
 
 pub put_decimal-digits-requires : goal.put_decimal-digits-requires
 put_decimal-digits-requires c =
@@ -50,10 +34,7 @@ put_decimal-digits-requires c =
     let m = mark_after (a.width - (l.j + 1)) ∷ [] in
     let rest = run_text (drop (l.j + 1) y) in
     let b = buffer l.into l.end in
-    room_before l.end d m (part_room o (run_text y) (run_text (drop l.j y)) (d ++ m) rest b l.invariant.2 n h.numbers_in_bounds)
-
-pub mark_after-mark-requires : goal.mark_after-mark-requires
-mark_after-mark-requires c = c.loop-j-test.true
+    room_before l.end d m (part_room o (run_text y) (run_text (drop l.j y)) (d ++ m) rest b l.invariant.1 n h.numbers_in_bounds)
 
 pub put_byte-end-requires : goal.put_byte-end-requires
 put_byte-end-requires c =
@@ -69,7 +50,7 @@ put_byte-end-requires c =
     let rest = run_text (drop (l.j + 1) y) in
     let b = buffer l.into l.end in
     room_then b d m c.put_decimal-digits.ensures
-    (part_room o (run_text y) (run_text (drop l.j y)) (d ++ m) rest b l.invariant.2 n h.numbers_in_bounds)
+    (part_room o (run_text y) (run_text (drop l.j y)) (d ++ m) rest b l.invariant.1 n h.numbers_in_bounds)
 
 pub loop-j-preserved : goal.loop-j-preserved
 loop-j-preserved c =
@@ -85,10 +66,9 @@ loop-j-preserved c =
     let m = mark_after (a.width - (l.j + 1)) ∷ [] in
     let rest = run_text (drop (l.j + 1) y) in
     let b = buffer l.into l.end in
-    let t = c.loop-j-test.true in
     let k = c.mark_after-mark in
     let q = k.result ∷ [] in
-    (omega (arith, t), c.put_byte-end.auto.into ∙ c.put_decimal-digits.auto.into ∙ l.invariant.1, part_more o (run_text y) (run_text (drop l.j y)) (d ++ q) rest b _ l.invariant.2 (n ∙ ap (λ (v : ℕ). (d ++ (v ∷ [])) ++ rest) (sym k.ensures)) (put_then b d q c.put_decimal-digits.ensures c.put_byte-end.ensures))
+    (c.put_byte-end.auto.into ∙ c.put_decimal-digits.auto.into ∙ l.invariant.0, part_more o (run_text y) (run_text (drop l.j y)) (d ++ q) rest b _ l.invariant.1 (n ∙ ap (λ (v : ℕ). (d ++ (v ∷ [])) ++ rest) (sym k.ensures)) (put_then b d q c.put_decimal-digits.ensures c.put_byte-end.ensures))
 
 pub returns : goal.returns
 returns c =
@@ -98,5 +78,5 @@ returns c =
     let ns = a.numbers.now in
     let y = take a.width (drop a.from ns) in
     let l = c.loop-j in
-    part_all o (run_text y) (run_text (drop l.j y)) (buffer l.into l.end) l.invariant.2
-    (run_end ns a.from a.width l.j h.width_in_bounds (omega (arith, l.invariant.0)))
+    part_all o (run_text y) (run_text (drop l.j y)) (buffer l.into l.end) l.invariant.1
+    (run_end ns a.from a.width l.j h.width_in_bounds (omega arith))

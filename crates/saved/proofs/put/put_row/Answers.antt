@@ -7,8 +7,9 @@ use Prim.Native.Nat.{ℕ, ◌+◌, ◌-◌, ◌*◌, ◌≤◌, ◌<◌}
 use native.Mathlib.Nat.{zero-mul}
 use Rattle.text.specs.Buffer.{buffer}
 use Rattle.form.specs.Table.{row_text}
-use Rattle.numbers.specs.Tables.{row_at}
+use Rattle.numbers.specs.Tables.{row_place, row_of}
 use Rattle.saved.proofs.PutLaws.{Part, part_none, part_all, row_begins, row_ends, line_there, line_room, line_put, place_next}
+use Rattle.numbers.proofs.TableLaws.{row_in}
 use Rattle.saved.proofs.LoopLaws.{width_most}
 use Rattle.saved.proofs.put.put_row.Goals as goal
 
@@ -18,18 +19,15 @@ first k w = omega (arith, zero-mul w)
 few : {n m : ℕ} → n < m → m ≤ 32 → n < 32
 few p q = omega (arith, p, q)
 
-pub width-width-requires : goal.width-width-requires
-width-width-requires c = c.requires.row_lt_row_count
-
 pub loop-i-init : goal.loop-i-init
 loop-i-init c =
     let a = c.args in
     let h = c.requires in
     let o = buffer a.into.now a.at in
     let ns = a.numbers.now in
-    let r = row_at a.row in
+    let r = row_of a.row in
     let all = row_text r a.lines 0 a.from ns in
-    (omega arith, refl, first a.from r.width, subst (λ (l : List ℕ). Part o all l o) (row_begins r a.lines a.from ns) (part_none o all))
+    (refl, first a.from r.width, subst (λ (l : List ℕ). Part o all l o) (row_begins r a.lines a.from ns) (part_none o all))
 
 pub put_line-end-requires : goal.put_line-end-requires
 put_line-end-requires c =
@@ -37,7 +35,7 @@ put_line-end-requires c =
     let h = c.requires in
     let o = buffer a.into.now a.at in
     let ns = a.numbers.now in
-    let r = row_at a.row in
+    let r = row_of a.row in
     let w = c.width-width.ensures in
     let all = row_text r a.lines 0 a.from ns in
     let l = c.loop-i in
@@ -45,11 +43,10 @@ put_line-end-requires c =
     let v = l.invariant in
     let b = buffer l.into l.end in
     record {
-      row_lt_row_count = h.row_lt_row_count;
       i_bound = few t h.lines_bound;
-      width_nonzero = subst (λ (z : ℕ). 0 < z) (sym w) (width_most a.row h.row_lt_row_count).0;
-      width_in_bounds = line_there r a.lines l.i a.from c.width-width.result l.place ns w v.2 t h.row_in_bounds;
-      numbers_in_bounds = line_room r a.lines l.i a.from c.width-width.result l.place ns w v.2 t h.row_in_bounds o all b v.3 h.numbers_in_bounds;
+      width_nonzero = subst (λ (z : ℕ). 0 < z) (sym w) (width_most (row_place a.row) (row_in a.row)).0;
+      width_in_bounds = line_there r a.lines l.i a.from c.width-width.result l.place ns w v.1 t h.row_in_bounds;
+      numbers_in_bounds = line_room r a.lines l.i a.from c.width-width.result l.place ns w v.1 t h.row_in_bounds o all b v.2 h.numbers_in_bounds;
     }
 
 pub overflow_add-place : goal.overflow_add-place
@@ -57,13 +54,13 @@ overflow_add-place c =
     let a = c.args in
     let h = c.requires in
     let ns = a.numbers.now in
-    let r = row_at a.row in
+    let r = row_of a.row in
     let w = c.width-width.ensures in
     let l = c.loop-i in
     let t = c.loop-i-test.true in
     let v = l.invariant in
     let b = buffer l.into l.end in
-    let z = line_there r a.lines l.i a.from c.width-width.result l.place ns w v.2 t
+    let z = line_there r a.lines l.i a.from c.width-width.result l.place ns w v.1 t
     h.row_in_bounds in
     record { fits = omega (arith, z) }
 
@@ -73,14 +70,14 @@ loop-i-preserved c =
     let h = c.requires in
     let o = buffer a.into.now a.at in
     let ns = a.numbers.now in
-    let r = row_at a.row in
+    let r = row_of a.row in
     let w = c.width-width.ensures in
     let all = row_text r a.lines 0 a.from ns in
     let l = c.loop-i in
     let t = c.loop-i-test.true in
     let v = l.invariant in
     let b = buffer l.into l.end in
-    (omega (arith, t), c.put_line-end.auto.into ∙ v.1, place_next r a.lines l.i a.from c.width-width.result l.place ns w v.2 t h.row_in_bounds, line_put r a.lines l.i a.from c.width-width.result l.place ns w v.2 t h.row_in_bounds o all b v.3 _ c.put_line-end.ensures)
+    (c.put_line-end.auto.into ∙ v.0, place_next r a.lines l.i a.from c.width-width.result l.place ns w v.1 t h.row_in_bounds, line_put r a.lines l.i a.from c.width-width.result l.place ns w v.1 t h.row_in_bounds o all b v.2 _ c.put_line-end.ensures)
 
 pub returns : goal.returns
 returns c =
@@ -88,8 +85,8 @@ returns c =
     let h = c.requires in
     let o = buffer a.into.now a.at in
     let ns = a.numbers.now in
-    let r = row_at a.row in
+    let r = row_of a.row in
     let all = row_text r a.lines 0 a.from ns in
     let l = c.loop-i in
-    part_all o all (row_text r (a.lines - l.i) l.i (a.from + l.i * r.width) ns) (buffer l.into l.end) l.invariant.3
-    (row_ends r a.lines l.i (a.from + l.i * r.width) ns (omega (arith, l.invariant.0)))
+    part_all o all (row_text r (a.lines - l.i) l.i (a.from + l.i * r.width) ns) (buffer l.into l.end) l.invariant.2
+    (row_ends r a.lines l.i (a.from + l.i * r.width) ns (omega arith))

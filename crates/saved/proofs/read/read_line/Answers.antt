@@ -1,28 +1,13 @@
 -- `saved::read::read_line`: its head, its numbers, its end (`line_is`, `line_ends`).
 -- Assumes nothing.
 use native.Mathlib.Omega.{arith}
-use mathlib.Core.Path.{refl, ◌∙◌}
-use Prim.Native.Nat.{ℕ, ◌<◌}
+use mathlib.Core.Path.{ap, ◌∙◌}
 use lib.ListN.{take}
-use Rattle.numbers.specs.Tables.{row_at}
+use Rattle.numbers.specs.Tables.{row_place, row_of}
+use Rattle.numbers.proofs.TableLaws.{row_in}
 use Rattle.saved.specs.Place.{reading_at}
 use Rattle.saved.proofs.LoopLaws.{line_small, register_line, lines_kept, line_is, line_ends}
 use Rattle.saved.proofs.read.read_line.Goals as goal
-
-under : {n : ℕ} → n < 32 → n < 100
-under p = omega (arith, p)
-
-pub put_head-n-requires : goal.put_head-n-requires
-put_head-n-requires c =
-    let a = c.args in
-    let h = c.requires in
-    let b = take a.count a.numbers.now in
-    let i = a.i in
-    record {
-      row_lt_row_count = h.row_lt_row_count;
-      i_bound = under h.i_bound;
-      into_len = refl;
-    }
 
 pub overflow_mul-i : goal.overflow_mul-i
 overflow_mul-i c =
@@ -30,7 +15,7 @@ overflow_mul-i c =
     let h = c.requires in
     let b = take a.count a.numbers.now in
     let i = a.i in
-    let m = line_small a.row i a.width h.row_lt_row_count h.width_value h.i_bound in
+    let m = line_small (row_place a.row) i a.width (row_in a.row) h.width_value h.i_bound in
     record { fits = omega (arith, m) }
 
 pub read_numbers-line-requires : goal.read_numbers-line-requires
@@ -40,10 +25,9 @@ read_numbers-line-requires c =
     let b = take a.count a.numbers.now in
     let i = a.i in
     record {
-      row_lt_row_count = h.row_lt_row_count;
       width_bound = h.width_bound;
-      width_bound_2 = line_small a.row i a.width h.row_lt_row_count h.width_value h.i_bound;
-      width_bound_3 = (λ e. register_line a.row i a.width e h.width_value h.i_bound);
+      width_bound_2 = line_small (row_place a.row) i a.width (row_in a.row) h.width_value h.i_bound;
+      width_bound_3 = (λ e. register_line (row_place a.row) i a.width (ap row_place e) h.width_value h.i_bound);
       holds = h.holds;
     }
 
@@ -65,7 +49,7 @@ returns c =
     let h = c.requires in
     let x = a.text.now in
     let b = take a.count a.numbers.now in
-    let r = row_at a.row in
+    let r = row_of a.row in
     let i = a.i in
     let n = c.read_numbers-line in
     let k = lines_kept a.width _ (reading_at x a.p) _ (reading_at x n.result.place)

@@ -5,9 +5,9 @@ use mathlib.Core.Path.{ap, ◌∙◌}
 use mathlib.Core.List.{[], ◌∷◌}
 use borrow.Author.Rules.{rules}
 use Rattle.saved.specs.Reading.{past_word}
-use Prim.Native.Nat.{ℕ, ◌+◌, ◌≤◌}
-use lib.ListN.{take, length-set}
-use Rattle.numbers.specs.Tables.{row_at}
+use Prim.Native.Nat.{ℕ, ◌+◌}
+use lib.ListN.{take}
+use Rattle.numbers.specs.Tables.{row_place, row_of}
 use Rattle.saved.specs.Place.{reading_at}
 use Rattle.saved.proofs.LoopLaws.{went_more, went_all, line_went, held_long, good_alike}
 use Rattle.saved.proofs.read.read_numbers.Goals as goal
@@ -16,44 +16,10 @@ pub loop-j-init : goal.loop-j-init
 loop-j-init c =
     let a = c.args in
     let h = c.requires in
-    (omega arith, h.holds.long, line_went (row_at a.row) a.numbers.now a.count a.first a.width (reading_at a.text.now a.p) h.holds)
+    line_went (row_of a.row) a.numbers.now a.count a.first a.width (reading_at a.text.now a.p) h.holds
 
 pub number_at-found-requires : goal.number_at-found-requires
 number_at-found-requires c = search rules
-
-pub overflow_add-first : goal.overflow_add-first
-overflow_add-first c =
-    let h = c.requires in
-    record { fits = omega (arith, h.width_bound_2) }
-
-pub good-passes-requires : goal.good-passes-requires
-good-passes-requires c =
-    let l = c.loop-j in
-    let h = c.requires in
-    record {
-      row_lt_row_count = h.row_lt_row_count;
-      numbers_len = l.invariant.1;
-      j_bound = λ e. let k = h.width_bound_3 e in omega (arith, k, c.loop-j-test.true);
-    }
-
-pub overflow_add-numbers : goal.overflow_add-numbers
-overflow_add-numbers c =
-    let h = c.requires in
-    record { fits = omega (arith, h.width_bound) }
-
-pub offset_bounds-numbers-count : goal.offset_bounds-numbers-count
-offset_bounds-numbers-count c =
-    let h = c.requires in
-    record { fits = omega (arith, h.width_bound) }
-
-pub bounds-numbers-count : goal.bounds-numbers-count
-bounds-numbers-count c =
-    let l = c.loop-j in
-    let h = c.requires in
-    omega (arith, h.width_bound, l.invariant.1, c.loop-j-test.true)
-
-pub mark_after-mark-requires : goal.mark_after-mark-requires
-mark_after-mark-requires c = c.loop-j-test.true
 
 pub past_byte-place-requires : goal.past_byte-place-requires
 past_byte-place-requires c = search rules
@@ -65,16 +31,15 @@ loop-j-preserved c =
     let h = c.requires in
     let x = a.text.now in
     let f = c.number_at-found in
-    let t : l.j + 1 ≤ a.width = omega (arith, c.loop-j-test.true) in
     let n = held_long a.numbers.now a.count h.holds (omega (arith, h.width_bound)) in
-    (t, simp length-set l.invariant.1, went_more (row_at a.row) (take a.count a.numbers.now) a.first a.width (reading_at x a.p) a.count n l.j (reading_at x l.place) l.good l.numbers f.result.value (reading_at x f.result.place) (reading_at x c.past_byte-place.result) c.good-passes.result c.loop-j-test.true h.width_bound l.invariant.2 f.ensures.0 f.ensures.1 (c.past_byte-place.ensures ∙ ap (λ (k : ℕ). past_word (k ∷ []) (reading_at x f.result.place)) c.mark_after-mark.ensures) c.good-passes.ensures (λ y z e. good_alike a.row y z e (a.first + l.j) f.result.value))
+    went_more (row_of a.row) (take a.count a.numbers.now) a.first a.width (reading_at x a.p) a.count n l.j (reading_at x l.place) l.good l.numbers f.result.value (reading_at x f.result.place) (reading_at x c.past_byte-place.result) c.good-passes.result c.loop-j-test.true h.width_bound l.invariant f.ensures.0 f.ensures.1 (c.past_byte-place.ensures ∙ ap (λ (k : ℕ). past_word (k ∷ []) (reading_at x f.result.place)) c.mark_after-mark.ensures) c.good-passes.ensures (λ y z e. good_alike (row_place a.row) y z e (a.first + l.j) f.result.value)
 
 pub returns : goal.returns
 returns c =
     let l = c.loop-j in
     let a = c.args in
-    let r = went_all (row_at a.row) (take a.count a.numbers.now) a.first a.width (reading_at a.text.now a.p)
-    (reading_at a.text.now l.place) l.good l.numbers l.j (omega (arith, l.invariant.0)) l.invariant.2 in
+    let r = went_all (row_of a.row) (take a.count a.numbers.now) a.first a.width (reading_at a.text.now a.p)
+    (reading_at a.text.now l.place) l.good l.numbers l.j (omega arith) l.invariant in
     record {
       numbers_after = r.0;
       place_value = r.1;

@@ -6,7 +6,8 @@ use mathlib.Core.Path.{◌≡◌, refl, sym, subst}
 use Prim.Native.Nat.{ℕ, ◌+◌, ◌≤◌, ◌<◌}
 use lib.ListN.{take}
 use Rattle.form.specs.Table.{span}
-use Rattle.numbers.specs.Tables.{row_at}
+use Rattle.numbers.specs.Tables.{row_place, row_of}
+use Rattle.numbers.proofs.TableLaws.{row_in}
 use Rattle.saved.specs.Reading.{got}
 use Rattle.saved.specs.Place.{reading_at}
 use Rattle.saved.proofs.LoopLaws.{rows_none, rows_step, rows_all, lines_are, lines_most, width_most, line_fits, held_long}
@@ -18,44 +19,32 @@ less s p = omega (arith, p)
 few : {n m k : ℕ} → n < m → m ≡ k → k ≤ 32 → n < 32
 few p q t = omega (arith, p, q, t)
 
-pub width-width-requires : goal.width-width-requires
-width-width-requires c = c.requires.row_lt_row_count
-
-pub bounds-numbers-0 : goal.bounds-numbers-0
-bounds-numbers-0 c =
-    let o = c.requires.holds in
-    omega (arith, o.long)
-
-pub lines-lines-requires : goal.lines-lines-requires
-lines-lines-requires c = c.requires.row_lt_row_count
-
 pub loop-i-init : goal.loop-i-init
 loop-i-init c =
     let a = c.args in
     let h = c.requires in
     let x = reading_at a.text.now a.p in
     let b = take a.count a.numbers.now in
-    let r = row_at a.row in
+    let r = row_of a.row in
     let o = h.holds in
     let k = held_long a.numbers.now a.count o (less (span r b) h.numbers_bound) in
-    (omega arith, o.long, rows_none r c.lines-lines.result (got b x) a.numbers.now a.count x o refl k h.lines_le_count)
+    rows_none r c.lines-lines.result (got b x) a.numbers.now a.count x o refl k h.lines_le_count
 
 pub read_line-place-requires : goal.read_line-place-requires
 read_line-place-requires c =
     let a = c.args in
     let h = c.requires in
     let o = h.holds in
-    let n = lines_are a.row _ a.numbers.now a.count h.row_lt_row_count o c.lines-lines.ensures in
+    let n = lines_are (row_place a.row) _ a.numbers.now a.count (row_in a.row) o c.lines-lines.ensures in
     let l = c.loop-i in
     let t = c.loop-i-test.true in
     let w = c.width-width.ensures in
-    let f = l.invariant.2 in
-    let m = line_fits a.row _ a.numbers.now a.count l.i l.at o n h.numbers_bound t f.counted in
+    let f = l.invariant in
+    let m = line_fits (row_place a.row) _ a.numbers.now a.count l.i l.at o n h.numbers_bound t f.counted in
     record {
-      row_lt_row_count = h.row_lt_row_count;
       width_value = w;
       width_bound = subst (λ (z : ℕ). l.at + z ≤ 400) (sym w) m;
-      i_bound = few t n (lines_most (take a.count a.numbers.now) a.row h.row_lt_row_count);
+      i_bound = few t n (lines_most (take a.count a.numbers.now) (row_place a.row) (row_in a.row));
       lines_le_count = f.fewer;
       holds = f.list;
     }
@@ -63,10 +52,10 @@ read_line-place-requires c =
 pub overflow_add-at : goal.overflow_add-at
 overflow_add-at c =
     let w = c.width-width.ensures in
-    let n = lines_are c.args.row _ c.args.numbers.now c.args.count c.requires.row_lt_row_count c.requires.holds c.lines-lines.ensures in
+    let n = lines_are (row_place c.args.row) _ c.args.numbers.now c.args.count (row_in c.args.row) c.requires.holds c.lines-lines.ensures in
     let m =
-    line_fits c.args.row _ c.args.numbers.now c.args.count c.loop-i.i c.loop-i.at c.requires.holds n c.requires.numbers_bound c.loop-i-test.true
-    c.loop-i.invariant.2.counted in
+    line_fits (row_place c.args.row) _ c.args.numbers.now c.args.count c.loop-i.i c.loop-i.at c.requires.holds n c.requires.numbers_bound c.loop-i-test.true
+    c.loop-i.invariant.counted in
     record { fits = omega (arith, m, w) }
 
 pub loop-i-preserved : goal.loop-i-preserved
@@ -77,22 +66,22 @@ loop-i-preserved c =
     let t = c.loop-i-test.true in
     let w = c.width-width in
     let d = c.read_line-place in
-    let n = lines_are c.args.row _ c.args.numbers.now c.args.count c.requires.row_lt_row_count c.requires.holds c.lines-lines.ensures in
+    let n = lines_are (row_place c.args.row) _ c.args.numbers.now c.args.count (row_in c.args.row) c.requires.holds c.lines-lines.ensures in
     let m =
-    line_fits c.args.row _ c.args.numbers.now c.args.count c.loop-i.i c.loop-i.at c.requires.holds n c.requires.numbers_bound c.loop-i-test.true
-    c.loop-i.invariant.2.counted in
-    let v = rows_step (row_at a.row) c.lines-lines.result (got (take a.count a.numbers.now) (reading_at x a.p))
+    line_fits (row_place c.args.row) _ c.args.numbers.now c.args.count c.loop-i.i c.loop-i.at c.requires.holds n c.requires.numbers_bound c.loop-i-test.true
+    c.loop-i.invariant.counted in
+    let v = rows_step (row_of a.row) c.lines-lines.result (got (take a.count a.numbers.now) (reading_at x a.p))
     w.result w.ensures l.i l.at l.numbers (reading_at x l.place) _
-    (reading_at x d.result) t m (width_most a.row c.requires.row_lt_row_count).0 l.invariant.2 d.ensures.numbers_after
+    (reading_at x d.result) t m (width_most (row_place a.row) (row_in a.row)).0 l.invariant d.ensures.numbers_after
     d.ensures.result_value d.ensures.lines_bound in
-    (omega (arith, t), v.list.long, v)
+    v
 
 pub returns : goal.returns
 returns c =
     let a = c.args in
     let h = c.requires in
     let x = a.text.now in
-    let n = lines_are a.row _ a.numbers.now a.count h.row_lt_row_count h.holds c.lines-lines.ensures in
+    let n = lines_are (row_place a.row) _ a.numbers.now a.count (row_in a.row) h.holds c.lines-lines.ensures in
     let l = c.loop-i in
-    rows_all (row_at a.row) c.lines-lines.result (got (take a.count a.numbers.now) (reading_at x a.p)) l.i l.at l.numbers
-    (reading_at x l.place) (omega (arith, l.invariant.0)) n l.invariant.2
+    rows_all (row_of a.row) c.lines-lines.result (got (take a.count a.numbers.now) (reading_at x a.p)) l.i l.at l.numbers
+    (reading_at x l.place) (omega arith) n l.invariant
