@@ -1,20 +1,17 @@
--- Laws of the table as code has it: a row by its number.
+-- Laws of the table as code has it: a row by its place, and by its name.
 -- Assumes nothing.
-use mathlib.Core.Path.{◌≡◌, refl, sym, ap, subst, ◌∙◌}
+use mathlib.Core.Path.{◌≡◌, refl, sym, ap, ◌∙◌}
 use mathlib.Core.Logic.{◌≢◌, ◌⊎◌, inl, inr}
-use mathlib.Core.Bool.{Bool, true, false, not, ◌&&◌, ◌||◌}
+use mathlib.Core.Bool.{Bool, true, false, ◌||◌}
 use mathlib.Core.List.{List, [], ◌∷◌}
-use Prim.Native.Nat.{ℕ, zero, suc, ◌+◌, ◌/◌, ◌%◌, ◌<◌, ◌≤◌}
+use Prim.Native.Nat.{ℕ, ◌/◌, ◌<◌, ◌≤◌}
 use native.Mathlib.Omega.{arith}
-use native.Mathlib.Numerals.{add-one}
-use borrow.Author.Tests.{eq-eqb, ne_eqb, eqb-true, ltb-true, ltb-false, lt-ltb, le-ltb}
+use borrow.Author.Tests.{ne_eqb, eqb-true, ltb-true, ltb-false}
 use lib.Dec.{ltb, eqb}
 use lib.ListN.{get_or, get_or-eq_default}
-use Rattle.base.specs.Words.{pick, bit, every}
-use Rattle.base.proofs.Tests.{by_cases, yes, no}
+use Rattle.base.specs.Words.{pick, every}
+use Rattle.base.proofs.Tests.{by_cases}
 use Rattle.base.proofs.Every.{every_at, same_below}
-use Rattle.events.specs.Control.{number_of, debounce_of}
-use Rattle.record.specs.Codes.{code_of, code_number}
 use Rattle.record.specs.declared.ClockAddress.{ClockAddress}
 use Rattle.record.specs.declared.EepromAddress.{EepromAddress}
 use Rattle.record.specs.declared.IdAddress.{IdAddress}
@@ -24,9 +21,8 @@ use Rattle.record.specs.declared.Stage.{Stage}
 use Rattle.record.specs.declared.Stage.TheVariants.{Reading, Writing, Second}
 use Rattle.record.specs.Numbers.{place_of, pair_of, stage_of}
 use Rattle.record.specs.Part.{size_of}
-use Rattle.record.specs.Registers.{periods, period_of}
 use Rattle.record.specs.Stages.{foreign_to_wip}
-use Rattle.form.specs.Table.{rows, part_in, power_in, startup_by, kind_limit, case_limit, case_good, value_limit, target_limit, left_by, left_limit, debounce_by, stage_good, target_good, part_row, register_row, sram_row, divider_row, startup_row, watchdog_row, delay_row, pulse_row, power_row, mark_row, wel_row, protection_row, lock_row, stage_row, offsets_row, load_row, next_row, target_row, left_row, eeprom_row, id_row, evls_row, evhs_row, edges_row, since_row, debounce_row}
+use Rattle.form.specs.Table.{rows, part_in, power_in, case_limit, left_by, left_limit, part_row, register_row, sram_row, divider_row, startup_row, watchdog_row, delay_row, pulse_row, power_row, mark_row, wel_row, protection_row, lock_row, stage_row, offsets_row, load_row, next_row, target_row, left_row, eeprom_row, id_row, evls_row, evhs_row, edges_row, since_row, debounce_row}
 use Rattle.numbers.specs.declared.table.Row.{Row as Name}
 use Rattle.numbers.specs.declared.table.Row.TheVariants.{Part as PartRow, Reg, Sram, Divider, Startup, Watchdog, Delay, Pulse, Power, Mark, Wel, Bp, Lock, Stage as StageRow, Offsets, Load, Next, Target, Left, Ee, Id, Evls, Evhs, Edges, Since, Debounce}
 use Rattle.numbers.specs.Tables.{row_at, row_count, row_place, row_of}
@@ -91,7 +87,7 @@ numbered (inr (inl e)) = rw e refl
 numbered (inr (inr (inl e))) = rw e refl
 numbered (inr (inr (inr e))) = rw e refl
 
--- and those of bytes. Each has its place in the table.
+-- and those of bytes.
 pub byte_rows :
     (b : List ℕ) (j n : ℕ) {r : Name} → (r ≡ Sram) ⊎ ((r ≡ Offsets) ⊎ ((r ≡ Load) ⊎ ((r ≡ Ee) ⊎ (r ≡ Id)))) → ltb n 256 ≡ (row_of r).good b j n
 unfolding row_at rows part_row register_row sram_row divider_row startup_row watchdog_row delay_row pulse_row power_row mark_row wel_row protection_row lock_row stage_row offsets_row load_row next_row target_row left_row eeprom_row id_row evls_row evhs_row edges_row since_row debounce_row
@@ -101,6 +97,7 @@ byte_rows b j n (inr (inr (inl e))) = rw e refl
 byte_rows b j n (inr (inr (inr (inl e)))) = rw e refl
 byte_rows b j n (inr (inr (inr (inr e)))) = rw e refl
 
+-- The rows in their order: each has its place in the table.
 abbrev pub names : List Name
 names = PartRow ∷ Reg ∷ Sram ∷ Divider ∷ Startup ∷ Watchdog ∷ Delay ∷ Pulse ∷ Power ∷ Mark ∷ Wel ∷ Bp ∷ Lock ∷ StageRow ∷ Offsets ∷ Load ∷ Next ∷ Target ∷ Left ∷ Ee ∷ Id ∷ Evls ∷ Evhs ∷ Edges ∷ Since ∷ Debounce ∷ []
 
@@ -153,86 +150,8 @@ pub foreign_by :
     → t ≡ foreign_to_wip (stage_of k c 0)
 foreign_by k c e f g h = h ∙ ap foreign_to_wip (g ∙ (λ i. stage_of (e i) (f i) 0) ∙ kind_byte k (pick (ltb c 256) c 255) 0 ∙ case_byte_of k c 0)
 
--- of 0Ah only the lowest bits set the period
-pub period_rest : (v : ℕ) → period_of (v % 8) ≡ period_of v
-period_rest v = ap (λ (k : ℕ). get_or periods k 0) (rest v)
-  where
-    rest : (n : ℕ) → n % 8 % 8 ≡ n % 8
-    rest n = omega arith
-
--- of 0Bh the lowest bits set edges and debounce
-pub number_rest : (v : ℕ) → number_of (v % 4) ≡ number_of v
-number_rest v = ap (λ (k : ℕ). get_or (1 ∷ 4 ∷ 16 ∷ 32 ∷ []) k 0) (rest v)
-  where
-    rest : (n : ℕ) → n % 4 % 4 ≡ n % 4
-    rest n = omega arith
-
-pub debounce_rest : (v : ℕ) → debounce_of (v % 8) ≡ debounce_of v
-debounce_rest v = ap (λ (k : ℕ). pick (eqb k 1) 16384 1024) (rest v)
-  where
-    rest : (n : ℕ) → n % 8 / 4 % 2 ≡ n / 4 % 2
-    rest n = omega arith
-
 pub case_limit_past : (k : ℕ) → 8 ≤ k → 1 ≡ case_limit k
 case_limit_past k h = sym (get_or-eq_default (1 ∷ 1 ∷ 1 ∷ 256 ∷ 3 ∷ 3 ∷ 4 ∷ 6 ∷ []) 1 {n = k} h)
 
-pub case_limit_at : (k : ℕ) → k < 8 → get_or (1 ∷ 1 ∷ 1 ∷ 256 ∷ 3 ∷ 3 ∷ 4 ∷ 6 ∷ []) k 0 ≡ case_limit k
-unfolding every
-case_limit_at k h = same_below (λ (j : ℕ). get_or (1 ∷ 1 ∷ 1 ∷ 256 ∷ 3 ∷ 3 ∷ 4 ∷ 6 ∷ []) j 0) case_limit 8 refl k h
-
--- Limits by their tests, as code has them.
-pub startup_open : (seconds : ℕ) {t boots : Bool} → t ≡ boots → (t || bit seconds 7) ≡ true → 33 ≡ startup_by boots (bit seconds 7)
-startup_open seconds e h = yes 33 1 (ap (λ (u : Bool). u || bit seconds 7) (sym e) ∙ h)
-
-pub startup_shut : (seconds : ℕ) {t boots : Bool} → t ≡ boots → (t || bit seconds 7) ≡ false → 1 ≡ startup_by boots (bit seconds 7)
-startup_shut seconds e h = no 33 1 (ap (λ (u : Bool). u || bit seconds 7) (sym e) ∙ h)
-
-pub left_open : (power : Bool) {t foreign : Bool} → t ≡ foreign → (power && not t) ≡ true → 165 ≡ left_by power foreign
-left_open power e h = yes 165 1 (ap (λ (u : Bool). power && not u) (sym e) ∙ h)
-
-pub left_shut : (power : Bool) {t foreign : Bool} → t ≡ foreign → (power && not t) ≡ false → 1 ≡ left_by power foreign
-left_shut power e h = no 165 1 (ap (λ (u : Bool). power && not u) (sym e) ∙ h)
-
-pub debounce_open : (v level : ℕ) {n : ℕ} → n ≡ debounce_of (v % 8) → (bit v 4 && ltb 0 level) ≡ true → n + 1 ≡ debounce_by v level
-debounce_open v level {n} e t = add-one n ∙ ap suc (e ∙ debounce_rest v) ∙ yes (suc (debounce_of v)) 1 t
-
-pub debounce_shut : (v level : ℕ) → (bit v 4 && ltb 0 level) ≡ false → 1 ≡ debounce_by v level
-debounce_shut v level t = no (suc (debounce_of v)) 1 t
-
 pub left_told : (b : List ℕ) → left_by (power_in b) (foreign_to_wip (stage_of (get_or b 107 0) (get_or b 108 0) 0)) ≡ left_limit b
 left_told b = ap (left_by (power_in b)) (value_free (get_or b 108 0) (get_or b 109 0) (get_or b 107 0))
-
--- the places of stage and target
-pub stage_kind_at : (b : List ℕ) (j n l : ℕ) → j ≡ 0 → l ≡ kind_limit b → ltb n l ≡ stage_good b j n
-stage_kind_at b j n l e h = ap (ltb n) h ∙ ap (λ (i : ℕ). stage_good b i n) (sym e)
-
-pub stage_case_at : (b : List ℕ) (j n : ℕ) {t : Bool} → j ≡ 1 → t ≡ case_good (get_or b 107 0) n → t ≡ stage_good b j n
-stage_case_at b j n e h = h ∙ ap (λ (i : ℕ). stage_good b i n) (sym e)
-
-pub stage_value_at :
-    (b : List ℕ) (j n s l : ℕ) → j ≢ 0 → j ≢ 1 → s ≡ size_of (part_in b) → l ≡ value_limit s (get_or b 107 0) (get_or b 108 0) → ltb n l ≡ stage_good b j n
-stage_value_at b zero n s l e f h g = absurd (e refl)
-stage_value_at b (suc zero) n s l e f h g = absurd (f refl)
-stage_value_at b (suc (suc j)) n s l e f h g = ap (ltb n) (g ∙ ap (λ (m : ℕ). value_limit m (get_or b 107 0) (get_or b 108 0)) h)
-
-pub target_kind_at : (b : List ℕ) (j n : ℕ) → j ≡ 0 → ltb n 3 ≡ target_good b j n
-target_kind_at b j n e = ap (λ (i : ℕ). target_good b i n) (sym e)
-
-pub target_value_at :
-    (b : List ℕ) (j n s l : ℕ) → j ≢ 0 → s ≡ size_of (part_in b) → l ≡ target_limit s (get_or b 120 0) → ltb n l ≡ target_good b j n
-target_value_at b zero n s l e h g = absurd (e refl)
-target_value_at b (suc j) n s l e h g = ap (ltb n) (g ∙ ap (λ (m : ℕ). target_limit m (get_or b 120 0)) h)
-
--- a case past its limit, one that is no instruction's, and an instruction's byte
-pub case_past : (k n l : ℕ) → l ≡ case_limit k → l ≤ n → false ≡ case_good k n
-case_past k n l e h = sym (ap (λ (t : Bool). t && (not (eqb k 3) || eqb (code_number (code_of n)) n)) (le-ltb n (case_limit k) (subst (λ (m : ℕ). m ≤ n) e h)))
-
-pub case_within : (k n l : ℕ) → l ≡ case_limit k → n < l → k ≢ 3 → true ≡ case_good k n
-case_within k n l e h f = sym (λ i. lt-ltb n (case_limit k) (subst (λ (m : ℕ). n < m) e h) i && (not (ne_eqb k 3 f i) || eqb (code_number (code_of n)) n))
-
-pub case_code : (k n l : ℕ) {t : Bool} → l ≡ case_limit k → n < l → k ≡ 3 → t ≡ eqb (code_number (code_of n)) n → t ≡ case_good k n
-case_code k n l e h f g =
-    g ∙ sym (λ i. lt-ltb n (case_limit k) (subst (λ (m : ℕ). n < m) e h) i && (not (eq-eqb k 3 f i) || eqb (code_number (code_of n)) n))
-
-pub case_byte : (k n l : ℕ) → l ≡ case_limit k → n < l → k ≡ 3 → n < 256
-case_byte k n l e h f = subst (λ (m : ℕ). n < m) (e ∙ ap case_limit f) h
