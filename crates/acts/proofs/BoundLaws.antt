@@ -10,7 +10,7 @@ use Rattle.base.proofs.Tests.{pick_when}
 use Rattle.base.proofs.WaitLaws.{wait_stops}
 use Rattle.record.specs.declared.Act.{Act}
 use Rattle.record.specs.declared.Act.TheVariants.{Select, Byte, End, Wait, Cut, Up, Set}
-use Rattle.record.specs.declared.Reply.TheVariants.{Driven, Off}
+use Rattle.std.specs.Prelude.{Some, None}
 use Rattle.record.specs.Part.{boots_of}
 use Rattle.record.specs.Registers.{wait_limit}
 use Rattle.record.specs.World.{World}
@@ -29,10 +29,10 @@ use Rattle.acts.proofs.ValidLaws.{Valid}
 pub record Small (o : Outcome) : Type 0 where
   pub number : o.number < 7
   pub count : o.count ≤ wait_limit
-  pub reply : (b : ℕ) → o.reply ≡ Driven b → b < 256
+  pub reply : (b : ℕ) → o.reply ≡ Some b → b < 256
 
--- Off drives no byte
-not_driven : (b : ℕ) → Off ≡ Driven b → ⊥
+-- None drives no byte
+not_driven : (b : ℕ) → None ≡ Some b → ⊥
 not_driven b e = driven_off b (sym e)
 
 -- a wait uses no more ticks than it is given, a cut stores a page at most, and no other act counts
@@ -46,7 +46,7 @@ accepted_count part arg w Up t = omega arith
 accepted_count part arg w (Set p) t = omega arith
 
 -- a byte has a reply, and an end the first bits of it
-accepted_reply : (part arg : ℕ) (w : World) (act : Act) → Valid part w → (b : ℕ) → (accepted part arg w act).reply ≡ Driven b → b < 256
+accepted_reply : (part arg : ℕ) (w : World) (act : Act) → Valid part w → (b : ℕ) → (accepted part arg w act).reply ≡ Some b → b < 256
 accepted_reply part arg w Select v b e = absurd (not_driven b e)
 accepted_reply part arg w Byte v b e = reply_byte part w v.range v.shaped b e
 accepted_reply part arg w End v b e =
@@ -67,7 +67,7 @@ performed_small part act arg w v =
           (λ t. accepted_count part arg w act (table.accepted part act arg w.device _ _ (eqb-true _ 0 t)).arg)
           (λ t. omega arith);
       reply =
-          pick_when (λ (o : Outcome). (b : ℕ) → o.reply ≡ Driven b → b < 256) done
+          pick_when (λ (o : Outcome). (b : ℕ) → o.reply ≡ Some b → b < 256) done
           (λ t. accepted_reply part arg w act v)
           (λ t b e. absurd (not_driven b e));
     }

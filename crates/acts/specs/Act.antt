@@ -1,14 +1,12 @@
 -- The acts (01's term) on a chip and its two memories: for every part, act and argument one answer, one record after it and one
 -- content of each memory, refused or not.
 -- Assumes nothing.
-use Rattle.std.specs.Prelude.{ℕ, List, eqb, length}
+use Rattle.std.specs.Prelude.{ℕ, List, eqb, length, Option, None}
 use Rattle.base.specs.Wait.{Waited}
 use Rattle.base.specs.Words.{pick}
 use Rattle.record.specs.declared.Act.{Act}
 use Rattle.record.specs.declared.Act.TheVariants.{Select, Byte, End, Wait, Cut, Up, Set}
 use Rattle.record.specs.declared.Device.{Device}
-use Rattle.record.specs.declared.Reply.{Reply}
-use Rattle.record.specs.declared.Reply.TheVariants.{Off}
 use Rattle.record.specs.Part.{top_of, boots_of}
 use Rattle.record.specs.World.{World, world, moved}
 use Rattle.refusals.specs.Refusal.{refusal_of}
@@ -23,33 +21,33 @@ use Rattle.acts.specs.declared.Answer.{Answer}
 -- W1. the number of the table, the reply on SO, a wait's ticks or a cut's count, and what is left
 pub record Outcome : Type 0 where
   pub number : ℕ
-  pub reply : Reply
+  pub reply : Option ℕ
   pub count : ℕ
   pub after : World
 
-abbrev pub outcome : ℕ → Reply → ℕ → World → Outcome
+abbrev pub outcome : ℕ → Option ℕ → ℕ → World → Outcome
 outcome number reply count after = record { number = number; reply = reply; count = count; after = after }
 
 -- A34. a refused act has no reply, and leaves the world as it was
 abbrev pub refused : ℕ → World → Outcome
-refused number w = outcome number Off 0 w
+refused number w = outcome number None 0 w
 
 -- A6. a wait answers the ticks that it used
 abbrev pub waited_outcome : Waited World → Outcome
-waited_outcome r = outcome 0 Off r.used r.after
+waited_outcome r = outcome 0 None r.used r.after
 
 -- A1, A3, A5, A6, A38, V1. What each act does that no row refuses: time passes in a wait alone; a byte has a reply, an end the first
 -- bits of one, a wait and a cut a count.
 abbrev pub accepted : ℕ → ℕ → World → Act → Outcome
-accepted part arg w Select = outcome 0 Off 0 (moved w (after_select w.device))
+accepted part arg w Select = outcome 0 None 0 (moved w (after_select w.device))
 accepted part arg w Byte =
     outcome 0 (next_reply w.eeprom w.id w.device) 0 (moved w (after_byte (boots_of part) (top_of part) arg w.device))
 accepted part arg w End =
     outcome 0 (leftover_reply arg w.eeprom w.id w.device) 0 (moved w (after_end (top_of part) arg w.device))
 accepted part arg w Wait = waited_outcome (waited (boots_of part) arg w)
-accepted part arg w Cut = outcome 0 Off (cut_count arg w.device) (cut_world arg w)
-accepted part arg w Up = outcome 0 Off 0 (moved w (after_up w.device))
-accepted part arg w (Set p) = outcome 0 Off 0 (moved w (after_set p arg w.device))
+accepted part arg w Cut = outcome 0 None (cut_count arg w.device) (cut_world arg w)
+accepted part arg w Up = outcome 0 None 0 (moved w (after_up w.device))
+accepted part arg w (Set p) = outcome 0 None 0 (moved w (after_set p arg w.device))
 
 -- the number of the table for an act on a world
 abbrev pub refusal_in : ℕ → Act → ℕ → World → ℕ
@@ -65,8 +63,8 @@ outcome_of r ee id = outcome r.number r.reply r.count (world r.device ee id)
 
 -- an answer with no reply
 abbrev pub silent_answer : ℕ → ℕ → Device → Answer
-silent_answer number count d = record { number = number; reply = Off; count = count; device = d }
+silent_answer number count d = record { number = number; reply = None; count = count; device = d }
 
 -- an answer with a reply and no count
-abbrev pub replied_answer : Reply → Device → Answer
+abbrev pub replied_answer : Option ℕ → Device → Answer
 replied_answer reply d = record { number = 0; reply = reply; count = 0; device = d }

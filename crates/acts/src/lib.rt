@@ -1,7 +1,7 @@
 #![tactic(auto)]
 
 // The acts on a chip's record and the two memories that are lent to each act.
-ghost use Rattle.std.specs.Prelude.{◌≡◌, ◌+◌, ◌≤◌, length};
+ghost use Rattle.std.specs.Prelude.{◌≡◌, ◌+◌, ◌≤◌, length, None};
 ghost use Rattle.record.specs.Address.{page_of};
 ghost use Rattle.record.specs.Stages.{cycle_place, eeprom_pointer, id_pointer};
 ghost use Rattle.refusals.specs.Refusal.{refusal_of, setup_refusal};
@@ -9,9 +9,8 @@ ghost use Rattle.record.specs.World.{world};
 ghost use Rattle.ticks.specs.Tick.{waited};
 ghost use Rattle.power.specs.Power.{cut_count, cut_world};
 ghost use Rattle.acts.specs.Act.{silent_answer, replied_answer, outcome_of, outcome, waited_outcome, accepted, performed};
-ghost use Rattle.record.specs.declared.Reply.TheVariants.{Off};
 
-use record::{Act, Device, Reply};
+use record::{Act, Device};
 
 pub mod page; // page.rt: a page stored under a mask, a memory erased
 
@@ -19,7 +18,7 @@ pub mod page; // page.rt: a page stored under a mask, a memory erased
 #[derive(Clone, Copy)]
 pub struct Answer {
     pub number: u8,
-    pub reply: Reply,
+    pub reply: Option<u8>,
     pub count: u64,
     pub device: Device,
 }
@@ -30,14 +29,14 @@ fn silent(number: u8, count: u64, device: Device) -> Answer
 {
     Answer {
         number,
-        reply: Reply::Off,
+        reply: None,
         count,
         device,
     }
 }
 
 // An answer of an act that is done, with its reply and no count.
-fn replied(reply: Reply, device: Device) -> Answer
+fn replied(reply: Option<u8>, device: Device) -> Answer
     ensures { result ≡ replied_answer reply device }
 {
     Answer {
@@ -71,7 +70,7 @@ fn wait_act(boots: bool, n: u64, d: Device, eeprom: &mut [u8], id: &mut [u8]) ->
 // A cut: what the mask lets through is stored, the rest is gone.
 fn cut_act(mask: u8, d: Device, eeprom: &mut [u8], id: &mut [u8]) -> Answer
     requires { (page_of (eeprom_pointer (cycle_place d.cycle.target)) + 8 ≤ length eeprom.old) × (page_of (id_pointer (cycle_place d.cycle.target)) + 8 ≤ length id.old) }
-    ensures { outcome_of result eeprom.new id.new ≡ outcome 0 Off (cut_count mask d) (cut_world mask (world d eeprom.old id.old)) }
+    ensures { outcome_of result eeprom.new id.new ≡ outcome 0 None (cut_count mask d) (cut_world mask (world d eeprom.old id.old)) }
 {
     let y = d.cycle;
     let target = y.target;

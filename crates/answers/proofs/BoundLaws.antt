@@ -9,8 +9,7 @@ use lib.Dec.{eqb}
 use lib.ListN.{length}
 use Rattle.base.proofs.Tests.{pick_case, pick_when}
 use Rattle.record.specs.declared.Act.{Act}
-use Rattle.record.specs.declared.Reply.{Reply}
-use Rattle.record.specs.declared.Reply.TheVariants.{Driven, Off}
+use Rattle.std.specs.Prelude.{Option, Some, None}
 use Rattle.record.specs.Part.{is_part}
 use Rattle.acts.specs.Act.{Outcome, performed}
 use Rattle.acts.proofs.BoundLaws.{Small, performed_small}
@@ -56,9 +55,9 @@ none_short number s h = record { number = h; out = omega arith }
 value_most : (n : ℕ) → n < 100000000 → length (decimal_text n) ≤ out_room
 value_most n h = omega (arith, decimal_places 7 n h)
 
-reply_most : (r : Reply) → ((b : ℕ) → r ≡ Driven b → b < 256) → length (out_text (reply_out r)) ≤ out_room
-reply_most (Driven b) h = value_most b (omega (arith, h b refl))
-reply_most Off h = omega arith
+reply_most : (r : Option ℕ) → ((b : ℕ) → r ≡ Some b → b < 256) → length (out_text (reply_out r)) ≤ out_room
+reply_most (Some b) h = value_most b (omega (arith, h b refl))
+reply_most None h = omega arith
 
 outcome_short : (part : ℕ) (act : Act) (o : Outcome) → Small o → Short (outcome_answer part act o)
 outcome_short part act o m =

@@ -1,10 +1,9 @@
 -- What a line answers, and what the chip on the tape is after it. What an act does is not said here: it is the act's definition.
 -- Assumes nothing.
-use Rattle.std.specs.Prelude.{ℕ, ◌≡◌, Bool, false, not, ◌||◌, List, ◌≢◌, eqb, length, take}
+use Rattle.std.specs.Prelude.{ℕ, ◌≡◌, Bool, false, not, ◌||◌, List, ◌≢◌, eqb, length, take, Some, None}
 use Rattle.base.specs.Words.{pick, over}
 use Rattle.record.specs.declared.Act.{Act}
 use Rattle.record.specs.declared.Act.TheVariants.{Wait, Cut}
-use Rattle.record.specs.declared.Reply.TheVariants.{Driven, Off}
 use Rattle.record.specs.declared.Device.{Device}
 use Rattle.record.specs.Part.{is_part, size_of, id_size}
 use Rattle.record.specs.World.{World, world, fresh_world}
@@ -81,8 +80,8 @@ line_answer line s = request_answer (request_of line) s
 unfoldable pub RepliesShown : Type 0
 RepliesShown =
     (line : List ℕ) (act : Act) (arg : ℕ) (s : Setup) → request_of line ≡ ActLine act arg → no_part s ≡ false → act ≢ Wait → act ≢ Cut
-    → ((n : ℕ) → (performed s.part act arg s.chip).reply ≡ Driven n → (line_answer line s).out ≡ Value n)
-    × ((performed s.part act arg s.chip).reply ≡ Off → (line_answer line s).out ≡ Z)
+    → ((n : ℕ) → (performed s.part act arg s.chip).reply ≡ Some n → (line_answer line s).out ≡ Value n)
+    × ((performed s.part act arg s.chip).reply ≡ None → (line_answer line s).out ≡ Z)
 
 -- T9. A level is high without a part, and where the chip does not hold it low.
 abbrev pub level_high : ℕ → Bool → Bool

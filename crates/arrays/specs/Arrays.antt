@@ -1,10 +1,8 @@
 -- What a caller in another language holds of a chip, and what a call answers: all of it numbers.
 -- Assumes nothing.
-use Rattle.std.specs.Prelude.{ℕ, Bool, true, false, not, List, [], ◌∷◌, length, get_or}
+use Rattle.std.specs.Prelude.{ℕ, Bool, true, false, not, List, [], ◌∷◌, length, get_or, Option, Some, None}
 use Rattle.base.specs.Words.{flag}
 use Rattle.record.specs.declared.Device.{Device}
-use Rattle.record.specs.declared.Reply.{Reply}
-use Rattle.record.specs.declared.Reply.TheVariants.{Driven, Off}
 use Rattle.record.specs.Part.{is_part}
 use Rattle.record.specs.World.{World}
 use Rattle.refusals.specs.Refusal.{wrong_length, first_refusal}
@@ -37,16 +35,16 @@ unfoldable pub state_refusal : Arrays → ℕ
 state_refusal a = arrays_refusal (part_of a.state) (length a.eeprom) (length a.id) (is_state a.state)
 
 -- I5. whether SO drives, and what
-abbrev pub drives : Reply → Bool
-drives (Driven b) = true
-drives Off = false
+abbrev pub drives : Option ℕ → Bool
+drives (Some b) = true
+drives None = false
 
-abbrev pub driven_byte : Reply → ℕ
-driven_byte (Driven b) = b
-driven_byte Off = 0
+abbrev pub driven_byte : Option ℕ → ℕ
+driven_byte (Some b) = b
+driven_byte None = 0
 
 -- I5. the six numbers of an answer, with the levels of a record
-abbrev pub answer_of : ℕ → Reply → ℕ → Device → List ℕ
+abbrev pub answer_of : ℕ → Option ℕ → ℕ → Device → List ℕ
 answer_of number reply count d = number ∷ flag (drives reply) ∷ driven_byte reply ∷ count ∷ flag (not (irq_low d)) ∷ flag (not (wdo_low d)) ∷ []
 
 -- I3. those where there is no chip

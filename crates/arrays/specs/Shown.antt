@@ -1,9 +1,8 @@
 -- Answers and refusals of a caller's arrays as numbers, written out from the rules: a second statement beside the contracts. Each computes.
 -- Assumes nothing.
-use Rattle.std.specs.Prelude.{◌≡◌, refl, true, false, [], ◌∷◌, set}
+use Rattle.std.specs.Prelude.{◌≡◌, refl, true, false, [], ◌∷◌, set, Some, None}
 use Rattle.events.specs.Control.{pulls_irq}
 use Rattle.record.specs.declared.Device.{Device}
-use Rattle.record.specs.declared.Reply.TheVariants.{Driven, Off}
 use Rattle.record.specs.Fresh.{fresh}
 use Rattle.record.specs.Setters.{with_regs, with_counters}
 use Rattle.ticks.specs.Lines.{irq_low, wdo_low}
@@ -19,11 +18,11 @@ pulsing = with_counters fresh (record { divider = 0; startup = 0; watchdog = 0; 
 pub AnswersShown : Type 0
 AnswersShown =
     -- I5. a driven 0, a driven byte, no reply with a count; levels
-    (answer_of 0 (Driven 0) 0 fresh ≡ 0 ∷ 1 ∷ 0 ∷ 0 ∷ 1 ∷ 1 ∷ [])
-    × (answer_of 0 (Driven 210) 0 fresh ≡ 0 ∷ 1 ∷ 210 ∷ 0 ∷ 1 ∷ 1 ∷ [])
-    × (answer_of 0 Off 164 fresh ≡ 0 ∷ 0 ∷ 0 ∷ 164 ∷ 1 ∷ 1 ∷ [])
-    × (answer_of 2 Off 0 alarmed ≡ 2 ∷ 0 ∷ 0 ∷ 0 ∷ 0 ∷ 1 ∷ [])
-    × (answer_of 0 Off 1 pulsing ≡ 0 ∷ 0 ∷ 0 ∷ 1 ∷ 1 ∷ 0 ∷ [])
+    (answer_of 0 (Some 0) 0 fresh ≡ 0 ∷ 1 ∷ 0 ∷ 0 ∷ 1 ∷ 1 ∷ [])
+    × (answer_of 0 (Some 210) 0 fresh ≡ 0 ∷ 1 ∷ 210 ∷ 0 ∷ 1 ∷ 1 ∷ [])
+    × (answer_of 0 None 164 fresh ≡ 0 ∷ 0 ∷ 0 ∷ 164 ∷ 1 ∷ 1 ∷ [])
+    × (answer_of 2 None 0 alarmed ≡ 2 ∷ 0 ∷ 0 ∷ 0 ∷ 0 ∷ 1 ∷ [])
+    × (answer_of 0 None 1 pulsing ≡ 0 ∷ 0 ∷ 0 ∷ 1 ∷ 1 ∷ 0 ∷ [])
     -- I3. no chip: no reply, both levels high
     × (no_chip 6 ≡ 6 ∷ 0 ∷ 0 ∷ 0 ∷ 1 ∷ 1 ∷ [])
     -- I2, I3. 3 before 4 before 6, and 0

@@ -13,7 +13,7 @@ ghost use Rattle.arrays.specs.Arrays.{part_of, arrays_refusal, drives, driven_by
 use events::Events;
 use numbers::table;
 use record::registers::POWER_DOWN;
-use record::{Counters, Cycle, Device, Frame, Guard, Load, Reply, part, registers};
+use record::{Counters, Cycle, Device, Frame, Guard, Load, part, registers};
 use text::buffer;
 
 // Bytes of a state array, numbers of an answer.
@@ -378,26 +378,26 @@ fn level(low: bool) -> u64
     if low { 0 } else { 1 }
 }
 
-fn driven(reply: Reply) -> u64
+fn driven(reply: Option<u8>) -> u64
     ensures { result ≡ flag (drives reply) }
 {
     match reply {
-        Reply::Driven(_) => 1,
-        Reply::Off => 0,
+        Some(_) => 1,
+        None => 0,
     }
 }
 
-fn byte(reply: Reply) -> u64
+fn byte(reply: Option<u8>) -> u64
     ensures { result ≡ driven_byte reply }
 {
     match reply {
-        Reply::Driven(b) => b as u64,
-        Reply::Off => 0,
+        Some(b) => b as u64,
+        None => 0,
     }
 }
 
 // An answer with the levels of a record.
-pub fn put_answer(number: u8, reply: Reply, count: u64, d: Device, into: &mut [u64; ANSWER])
+pub fn put_answer(number: u8, reply: Option<u8>, count: u64, d: Device, into: &mut [u64; ANSWER])
     ensures { into.new ≡ answer_of number reply count d }
 {
     *into = [

@@ -13,7 +13,7 @@ use Rattle.base.specs.Words.{pick}
 use Rattle.base.proofs.Tests.{by_cases, true_false, yes, no, pick_when, row, both_right, neither_left, neither_right}
 use Rattle.record.specs.declared.Act.{Act}
 use Rattle.record.specs.declared.Device.{Device}
-use Rattle.record.specs.declared.Reply.TheVariants.{Off}
+use Rattle.std.specs.Prelude.{None}
 use Rattle.record.specs.Fresh.{fresh}
 use Rattle.record.specs.Numbers.{act_count, act_of}
 use Rattle.record.specs.Part.{is_part, size_of, id_size}
@@ -142,8 +142,8 @@ module _ (a : Arrays) (k : ℕ) (e : k ≡ arrays_refusal (part_of a.state) (len
       judged = yes judging (called (state_refusal a) (no_chip (state_refusal a)) a) (eq-eqb (state_refusal a) 0 (sym refused_by_lem ∙ z))
 
       pub act_none :
-          (answer : List ℕ) (d : Device) → 7 < act → answer ≡ answer_of 3 Off 0 d → d ≡ (world_in a).device → called 3 answer a ≡ acts a act arg
-      act_none answer d h p q = (λ i. called 3 ((p ∙ ap (answer_of 3 Off 0) q) i) a) ∙ no done (no_act a) (le-ltb act act_count (omega (arith, h))) ∙ judged
+          (answer : List ℕ) (d : Device) → 7 < act → answer ≡ answer_of 3 None 0 d → d ≡ (world_in a).device → called 3 answer a ≡ acts a act arg
+      act_none answer d h p q = (λ i. called 3 ((p ∙ ap (answer_of 3 None 0) q) i) a) ∙ no done (no_act a) (le-ltb act act_count (omega (arith, h))) ∙ judged
 
       pub act_done :
           (part : ℕ) (state ee id answer : List ℕ) (d : Device) (code : Act) (r : Answer) → part ≡ part_of a.state → act ≤ 7 → code ≡ act_of act

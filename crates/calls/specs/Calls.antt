@@ -1,8 +1,7 @@
 -- The four calls on a caller's arrays. What an act does, and what a text is, is not said here.
 -- Assumes nothing.
-use Rattle.std.specs.Prelude.{ℕ, List, [], ◌∷◌, eqb, ltb, length, replicate}
+use Rattle.std.specs.Prelude.{ℕ, List, [], ◌∷◌, eqb, ltb, length, replicate, None}
 use Rattle.base.specs.Words.{pick}
-use Rattle.record.specs.declared.Reply.TheVariants.{Off}
 use Rattle.record.specs.Fresh.{fresh}
 use Rattle.record.specs.Numbers.{act_count, act_of}
 use Rattle.record.specs.World.{World, world}
@@ -41,7 +40,7 @@ told part o = called o.number (answer_of o.number o.reply o.count o.after.device
 
 -- I4. a number that names no act
 abbrev pub no_act : Arrays → Called
-no_act a = called 3 (answer_of 3 Off 0 (world_in a).device) a
+no_act a = called 3 (answer_of 3 None 0 (world_in a).device) a
 
 -- I3, I4. an act by its number
 unfoldable pub acts : Arrays → ℕ → ℕ → Called

@@ -5,7 +5,6 @@ ghost use Rattle.std.specs.Prelude.{◌≡◌};
 ghost use Rattle.arrays.specs.Arrays.{arrays};
 ghost use Rattle.calls.specs.Calls.{called, acts};
 
-use record::Reply;
 
 const ANSWER: usize = arrays::ANSWER;
 
@@ -28,7 +27,7 @@ pub fn mcp795_act(
     let part = arrays::part_of(state);
     let device = arrays::device_in(state);
     if 7 < act {
-        arrays::put_answer(3, Reply::Off, 0, device, answer);
+        arrays::put_answer(3, None, 0, device, answer);
         return 3;
     }
     let code = record::number::act_of(act as u8);

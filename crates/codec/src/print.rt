@@ -4,7 +4,7 @@ ghost use Rattle.text.specs.Buffer.{buffer, append};
 ghost use Rattle.lines.specs.Print.{shows_count, out_of, out_text, level_out, answer_line, out_room, answer_room};
 
 use lines::Out;
-use record::{Act, Reply};
+use record::Act;
 use text::{buffer, decimal};
 
 // The most bytes that an answer takes.
@@ -26,7 +26,7 @@ fn shows_count(act: Act) -> bool
 }
 
 // T8, G2. What the answer to an act shows: none where it is refused, its count, or its reply.
-pub fn out_of(number: u8, act: Act, reply: Reply, count: u64) -> Out
+pub fn out_of(number: u8, act: Act, reply: Option<u8>, count: u64) -> Out
     ensures { result ≡ out_of number act reply count }
 {
     let done = number == 0;
@@ -36,7 +36,7 @@ pub fn out_of(number: u8, act: Act, reply: Reply, count: u64) -> Out
     if shows_count(act) {
         return Out::Value(count);
     }
-    let Reply::Driven(b) = reply else {
+    let Some(b) = reply else {
         return Out::Z;
     };
     Out::Value(b as u64)

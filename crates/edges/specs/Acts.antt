@@ -1,7 +1,7 @@
 -- Closed witnesses of frames, registers and power, on records that are written out, through `performed`. Each shows a rule a second time, as the
 -- paper's numbers.
 -- Assumes nothing.
-use Rattle.std.specs.Prelude.{ℕ, ◌≡◌, refl, Bool, true, false, List, [], ◌∷◌, ◌++◌, set, replicate}
+use Rattle.std.specs.Prelude.{ℕ, ◌≡◌, refl, Bool, true, false, List, [], ◌∷◌, ◌++◌, set, replicate, Option, Some, None}
 use Rattle.base.specs.Wait.{waited_by}
 use Rattle.base.specs.Words.{every, members, store_under}
 use Rattle.calendar.specs.Field.{valid_field}
@@ -10,8 +10,6 @@ use Rattle.events.specs.Control.{pulls_irq}
 use Rattle.events.specs.Tick.{events_tick}
 use Rattle.events.specs.Range.{window_out, debounce_out, events_out}
 use Rattle.record.specs.declared.Act.TheVariants.{Select, Byte, End, Wait, Cut, Up}
-use Rattle.record.specs.declared.Reply.{Reply}
-use Rattle.record.specs.declared.Reply.TheVariants.{Driven, Off}
 use Rattle.record.specs.declared.Protection.{Protection}
 use Rattle.record.specs.declared.Lock.TheVariants.{Closed}
 use Rattle.record.specs.declared.Stage.TheVariants.{Idle}
@@ -44,9 +42,9 @@ use Rattle.run.specs.Script.{does, sent, ragged_frame, frame_of}
 use Rattle.edges.specs.Scene.{after, bytes_answered, after_bytes, replies, waiting, lent, scene}
 
 -- the driven bytes of a list
-unfoldable pub driven_all : List ℕ → List Reply
+unfoldable pub driven_all : List ℕ → List (Option ℕ)
 driven_all [] = []
-driven_all (b ∷ bs) = Driven b ∷ driven_all bs
+driven_all (b ∷ bs) = Some b ∷ driven_all bs
 
 -- a chip that holds something everywhere but in the time-stamps, with ST and VBATEN set and OSCON on
 abbrev pub busy_regs : List ℕ
@@ -58,13 +56,13 @@ abbrev pub busy : World
 busy = scene busy_regs (counts 5 32 6 7 8)
 
 -- STATUS as SRREAD answers it: by a cycle's ticks left, WEL and the protection
-abbrev pub status_with : ℕ → Bool → Protection → List Reply
+abbrev pub status_with : ℕ → Bool → Protection → List (Option ℕ)
 status_with left wel p =
     replies 1 (5 ∷ []) (0 ∷ 0 ∷ [])
     (lent (with_cycle (with_protection (with_wel (chip started (counts 0 32 0 0 0)) wel) p) (record { target = Eeprom (record { 0 = 0 }); left = left })))
 
-abbrev pub twice : ℕ → List Reply
-twice b = Driven b ∷ Driven b ∷ []
+abbrev pub twice : ℕ → List (Option ℕ)
+twice b = Some b ∷ Some b ∷ []
 
 unfoldable pub RegistersShown : Type 0
 RegistersShown =
@@ -112,28 +110,28 @@ numbered o = o.number ∷ o.count ∷ []
 unfoldable pub FramesShown : Type 0
 FramesShown =
     -- F3, F4, F7, F8. EEREAD: none for code and address, then the last two bytes and the first; address bit 7 does not count on 1 Kbit
-    (replies 1 [] (0x03 ∷ 0x7e ∷ 0 ∷ 0 ∷ 0 ∷ []) ends ≡ Off ∷ Off ∷ Driven 7 ∷ Driven 8 ∷ Driven 9 ∷ [])
-    × (replies 1 [] (0x03 ∷ 0xff ∷ 0 ∷ 0 ∷ []) ends ≡ Off ∷ Off ∷ Driven 8 ∷ Driven 9 ∷ [])
+    (replies 1 [] (0x03 ∷ 0x7e ∷ 0 ∷ 0 ∷ 0 ∷ []) ends ≡ None ∷ None ∷ Some 7 ∷ Some 8 ∷ Some 9 ∷ [])
+    × (replies 1 [] (0x03 ∷ 0xff ∷ 0 ∷ 0 ∷ []) ends ≡ None ∷ None ∷ Some 8 ∷ Some 9 ∷ [])
     -- F3, F4, F9. IDREAD: to 0Fh and on to 00h, the address by its remainder
-    × (replies 1 [] (0x33 ∷ 0x0e ∷ 0 ∷ 0 ∷ 0 ∷ []) ends ≡ Off ∷ Off ∷ Driven 4 ∷ Driven 6 ∷ Driven 5 ∷ [])
-    × (replies 1 [] (0x33 ∷ 0x1f ∷ 0 ∷ 0 ∷ []) ends ≡ Off ∷ Off ∷ Driven 6 ∷ Driven 5 ∷ [])
+    × (replies 1 [] (0x33 ∷ 0x0e ∷ 0 ∷ 0 ∷ 0 ∷ []) ends ≡ None ∷ None ∷ Some 4 ∷ Some 6 ∷ Some 5 ∷ [])
+    × (replies 1 [] (0x33 ∷ 0x1f ∷ 0 ∷ 0 ∷ []) ends ≡ None ∷ None ∷ Some 6 ∷ Some 5 ∷ [])
     -- F3. READ and SRREAD
-    × (replies 1 [] (0x13 ∷ 0x01 ∷ 0 ∷ []) ends ≡ Off ∷ Off ∷ Driven 0x80 ∷ [])
-    × (replies 1 [] (0x05 ∷ 0 ∷ []) ends ≡ Off ∷ Driven 0x00 ∷ [])
+    × (replies 1 [] (0x13 ∷ 0x01 ∷ 0 ∷ []) ends ≡ None ∷ None ∷ Some 0x80 ∷ [])
+    × (replies 1 [] (0x05 ∷ 0 ∷ []) ends ≡ None ∷ Some 0x00 ∷ [])
     -- F3. a write has no reply
-    × (replies 1 [] (0x02 ∷ 0 ∷ 1 ∷ []) ends ≡ Off ∷ Off ∷ Off ∷ [])
-    × (replies 1 [] (0x12 ∷ 0x20 ∷ 1 ∷ []) ends ≡ Off ∷ Off ∷ Off ∷ [])
+    × (replies 1 [] (0x02 ∷ 0 ∷ 1 ∷ []) ends ≡ None ∷ None ∷ None ∷ [])
+    × (replies 1 [] (0x12 ∷ 0x20 ∷ 1 ∷ []) ends ≡ None ∷ None ∷ None ∷ [])
     -- F2. a byte that is no code: no reply, no effect
-    × (replies 1 [] (0x00 ∷ 0x20 ∷ 1 ∷ []) ends ≡ Off ∷ Off ∷ Off ∷ [])
+    × (replies 1 [] (0x00 ∷ 0x20 ∷ 1 ∷ []) ends ≡ None ∷ None ∷ None ∷ [])
     × (after 1 (frame_of (0x00 ∷ 0x20 ∷ 1 ∷ [])) busy ≡ busy)
     × (after 1 (frame_of (0xff ∷ 0x20 ∷ 1 ∷ [])) busy ≡ busy)
     -- A3. no time passes in a frame
     × (after 1 (frame_of (0x13 ∷ 0x00 ∷ replicate 40 0)) busy ≡ busy)
     -- F31, F32. in a cycle: EEREAD is not heard, whatever byte follows it, nor an enable; READ, SRREAD, WRITE, CLRRAM and CLRWDT are
-    × (replies 1 [] (0x03 ∷ 0x00 ∷ 0 ∷ []) in_cycle ≡ Off ∷ Off ∷ Off ∷ [])
-    × (replies 1 [] (0x03 ∷ 0x05 ∷ 0 ∷ []) in_cycle ≡ Off ∷ Off ∷ Off ∷ [])
-    × (replies 1 [] (0x13 ∷ 0x01 ∷ 0 ∷ []) in_cycle ≡ Off ∷ Off ∷ Driven 0x80 ∷ [])
-    × (replies 1 [] (0x05 ∷ 0 ∷ []) in_cycle ≡ Off ∷ Driven 0x01 ∷ [])
+    × (replies 1 [] (0x03 ∷ 0x00 ∷ 0 ∷ []) in_cycle ≡ None ∷ None ∷ None ∷ [])
+    × (replies 1 [] (0x03 ∷ 0x05 ∷ 0 ∷ []) in_cycle ≡ None ∷ None ∷ None ∷ [])
+    × (replies 1 [] (0x13 ∷ 0x01 ∷ 0 ∷ []) in_cycle ≡ None ∷ None ∷ Some 0x80 ∷ [])
+    × (replies 1 [] (0x05 ∷ 0 ∷ []) in_cycle ≡ None ∷ Some 0x01 ∷ [])
     × (after 1 (frame_of (0x06 ∷ [])) in_cycle ≡ in_cycle)
     × ((after 1 (frame_of (0x12 ∷ 0x20 ∷ 1 ∷ [])) in_cycle).device.sram ≡ 1 ∷ replicate 63 7)
     × ((after 1 (frame_of (0x54 ∷ [])) in_cycle).device.sram ≡ replicate 64 0)
@@ -150,13 +148,13 @@ FramesShown =
     × (after 1 (frame_of (0x44 ∷ 0x99 ∷ 0x99 ∷ [])) busy ≡ busy)
     × (after 1 (ragged_frame 7 (0x44 ∷ [])) busy ≡ busy)
     -- A5, A6, A7, A34, A38. reply, number and count of each act, and of one that is refused
-    × ((performed 1 Select 0 busy).reply ≡ Off) × (numbered (performed 1 Select 0 busy) ≡ 0 ∷ 0 ∷ [])
+    × ((performed 1 Select 0 busy).reply ≡ None) × (numbered (performed 1 Select 0 busy) ≡ 0 ∷ 0 ∷ [])
     × (numbered (performed 1 Byte 0x13 (performed 1 Select 0 busy).after) ≡ 0 ∷ 0 ∷ [])
-    × ((performed 1 End 0 (performed 1 Select 0 busy).after).reply ≡ Off) × (numbered (performed 1 End 0 (performed 1 Select 0 busy).after) ≡ 0 ∷ 0 ∷ [])
-    × ((performed 1 Wait 1 busy).reply ≡ Off) × (numbered (performed 1 Wait 1 busy) ≡ 0 ∷ 1 ∷ [])
-    × ((performed 1 Cut 0xff busy).reply ≡ Off) × (numbered (performed 1 Cut 0xff busy) ≡ 0 ∷ 0 ∷ [])
-    × ((performed 1 Up 0 (performed 1 Cut 0 busy).after).reply ≡ Off) × (numbered (performed 1 Up 0 (performed 1 Cut 0 busy).after) ≡ 0 ∷ 0 ∷ [])
-    × ((performed 1 Byte 0x13 busy).reply ≡ Off) × (numbered (performed 1 Byte 0x13 busy) ≡ 2 ∷ 0 ∷ []) × ((performed 1 Byte 0x13 busy).after ≡ busy)
+    × ((performed 1 End 0 (performed 1 Select 0 busy).after).reply ≡ None) × (numbered (performed 1 End 0 (performed 1 Select 0 busy).after) ≡ 0 ∷ 0 ∷ [])
+    × ((performed 1 Wait 1 busy).reply ≡ None) × (numbered (performed 1 Wait 1 busy) ≡ 0 ∷ 1 ∷ [])
+    × ((performed 1 Cut 0xff busy).reply ≡ None) × (numbered (performed 1 Cut 0xff busy) ≡ 0 ∷ 0 ∷ [])
+    × ((performed 1 Up 0 (performed 1 Cut 0 busy).after).reply ≡ None) × (numbered (performed 1 Up 0 (performed 1 Cut 0 busy).after) ≡ 0 ∷ 0 ∷ [])
+    × ((performed 1 Byte 0x13 busy).reply ≡ None) × (numbered (performed 1 Byte 0x13 busy) ≡ 2 ∷ 0 ∷ []) × ((performed 1 Byte 0x13 busy).after ≡ busy)
 
 -- a cycle with three of eight offsets loaded, so many ticks before its end, and before its last tick
 abbrev pub loaded_for : ℕ → Target → World

@@ -1,7 +1,7 @@
 -- E1. The edges that document 01 marks P, under one statement. It cites only definitions that the contracts of `perform`, `run` and the
 -- calendar cite, itself or through another. The acts begin at a fresh chip.
 -- Assumes nothing.
-use Rattle.std.specs.Prelude.{◌≡◌, refl, true, false, [], ◌∷◌, ◌++◌, set, take, replicate}
+use Rattle.std.specs.Prelude.{◌≡◌, refl, true, false, [], ◌∷◌, ◌++◌, set, take, replicate, Some}
 use Rattle.base.specs.Wait.{waited_by}
 use Rattle.base.specs.Words.{every, store_under}
 use Rattle.calendar.specs.Field.{valid_field, next_field}
@@ -13,7 +13,6 @@ use Rattle.events.specs.Control.{pulls_irq}
 use Rattle.events.specs.Tick.{events_tick}
 use Rattle.events.specs.Range.{window_out, debounce_out, events_out}
 use Rattle.record.specs.declared.Act.TheVariants.{Wait}
-use Rattle.record.specs.declared.Reply.TheVariants.{Driven}
 use Rattle.record.specs.Fresh.{fresh}
 use Rattle.record.specs.World.{World, fresh_world}
 use Rattle.refusals.specs.Range.{out_of_range, clock_out, frame_out, cycle_out, power_out, bit_outside}
@@ -66,10 +65,10 @@ Edges =
     × ((performed 1 Wait 328 w).after.device.counters.divider ≡ 328)
     × (take 8 (performed 1 Wait 328 w).after.device.regs ≡ 0x01 ∷ 0x80 ∷ 0x00 ∷ 0x00 ∷ 0x01 ∷ 0x01 ∷ 0x01 ∷ 0x00 ∷ []))
     -- E11. 1Fh to 00h: after a READ at 1Fh comes 00h
-    × (replies 1 (0x13 ∷ 0x1f ∷ []) (0 ∷ 0 ∷ []) (after 1 (frame_of (0x12 ∷ 0x00 ∷ 0x77 ∷ [])) (fresh_world 1)) ≡ Driven 0x00 ∷ Driven 0x77 ∷ [])
+    × (replies 1 (0x13 ∷ 0x1f ∷ []) (0 ∷ 0 ∷ []) (after 1 (frame_of (0x12 ∷ 0x00 ∷ 0x77 ∷ [])) (fresh_world 1)) ≡ Some 0x00 ∷ Some 0x77 ∷ [])
     -- E12. 5Fh to 20h: after a READ at 5Fh comes 20h
     × (replies 1 (0x13 ∷ 0x5f ∷ []) (0 ∷ 0 ∷ [])
-    (after 1 (frame_of (0x12 ∷ 0x5f ∷ 0x88 ∷ []) ++ frame_of (0x12 ∷ 0x20 ∷ 0x99 ∷ [])) (fresh_world 1)) ≡ Driven 0x88 ∷ Driven 0x99 ∷ [])
+    (after 1 (frame_of (0x12 ∷ 0x5f ∷ 0x88 ∷ []) ++ frame_of (0x12 ∷ 0x20 ∷ 0x99 ∷ [])) (fresh_world 1)) ≡ Some 0x88 ∷ Some 0x99 ∷ [])
     -- E13. page 07h to 00h: the second byte of a write at 07h goes to 00h, and no other place changes
     × ((after 2 (frame_of (6 ∷ []) ++ frame_of (2 ∷ 7 ∷ 18 ∷ 52 ∷ []) ++ waiting 200) (fresh_world 2)).eeprom ≡ set (set (replicate 256 255) 7 18) 0 52)
     -- E14. 2 Kbit under BP 01, at BFh and at C0h: a cycle starts and stores, or none starts and WEL stays

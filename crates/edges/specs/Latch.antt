@@ -1,7 +1,7 @@
 -- Closed witnesses of the latch, on records that are written out, through `performed`: what STATUS is answered after each act that resets it, and
 -- after what does not; WEL in the record where STATUS cannot be asked. BP is 01 throughout: with no cycle STATUS is 04h with WEL clear, 06h with WEL set.
 -- Assumes nothing.
-use Rattle.std.specs.Prelude.{ℕ, ◌≡◌, Bool, true, false, List, [], ◌∷◌, set}
+use Rattle.std.specs.Prelude.{ℕ, ◌≡◌, Bool, true, false, List, [], ◌∷◌, set, Option, Some}
 use Rattle.base.specs.Wait.{waited_by}
 use Rattle.base.specs.Words.{every, members, store_under}
 use Rattle.events.specs.Control.{pulls_irq}
@@ -11,8 +11,6 @@ use Rattle.record.specs.declared.Act.{Act}
 use Rattle.record.specs.declared.Act.TheVariants.{Select, End, Wait, Cut, Up}
 use Rattle.record.specs.declared.Lock.TheVariants.{Closed, Open}
 use Rattle.record.specs.declared.Protection.TheVariants.{Quarter}
-use Rattle.record.specs.declared.Reply.{Reply}
-use Rattle.record.specs.declared.Reply.TheVariants.{Driven}
 use Rattle.record.specs.declared.Target.{Target}
 use Rattle.record.specs.declared.Target.TheVariants.{Eeprom, Id, Status}
 use Rattle.record.specs.Fresh.{fresh}
@@ -59,18 +57,18 @@ abbrev enabled_off : World
 enabled_off = moved enabled (with_power enabled.device false)
 
 -- STATUS after a frame, a whole one or one with leftover bits
-abbrev ragged_status : ℕ → List ℕ → World → List Reply
+abbrev ragged_status : ℕ → List ℕ → World → List (Option ℕ)
 ragged_status leftover bs w = replies 1 (5 ∷ []) (0 ∷ []) (after 1 (ragged_frame leftover bs) w)
 
-abbrev status_after : List ℕ → World → List Reply
+abbrev status_after : List ℕ → World → List (Option ℕ)
 status_after bs w = ragged_status 0 bs w
 
 -- STATUS after an act
-abbrev status_once : Act → ℕ → World → List Reply
+abbrev status_once : Act → ℕ → World → List (Option ℕ)
 status_once act arg w = replies 1 (5 ∷ []) (0 ∷ []) (performed 1 act arg w).after
 
-abbrev answered : ℕ → List Reply
-answered b = Driven b ∷ []
+abbrev answered : ℕ → List (Option ℕ)
+answered b = Some b ∷ []
 
 unfoldable pub LatchShown : Type 0
 LatchShown =

@@ -1,6 +1,6 @@
 -- Closed witnesses of ends with leftover bits, through `performed`: at each kind of frame and pointer the bits of the byte that comes next, as numbers.
 -- Assumes nothing.
-use Rattle.std.specs.Prelude.{ℕ, ◌≡◌, refl, true, List, [], ◌∷◌, set, replicate}
+use Rattle.std.specs.Prelude.{ℕ, ◌≡◌, refl, true, List, [], ◌∷◌, set, replicate, Option, None}
 use Rattle.base.specs.Words.{every}
 use Rattle.calendar.specs.Date.{leap_year}
 use Rattle.calendar.specs.Field.{valid_field}
@@ -8,8 +8,6 @@ use Rattle.events.specs.Range.{window_out, debounce_out, events_out}
 use Rattle.record.specs.declared.Act.TheVariants.{End, Cut}
 use Rattle.record.specs.declared.Device.{Device}
 use Rattle.record.specs.declared.Protection.TheVariants.{All}
-use Rattle.record.specs.declared.Reply.{Reply}
-use Rattle.record.specs.declared.Reply.TheVariants.{Off}
 use Rattle.record.specs.declared.Target.TheVariants.{Eeprom}
 use Rattle.record.specs.Fresh.{fresh}
 use Rattle.record.specs.Scene.{chip, started}
@@ -30,26 +28,26 @@ use Rattle.acts.specs.Act.{performed}
 use Rattle.edges.specs.Scene.{after_bytes, sent_in}
 
 -- the replies to the ends of a frame with 0 to 7 leftover bits
-abbrev bits : ℕ → List ℕ → World → List Reply
+abbrev bits : ℕ → List ℕ → World → List (Option ℕ)
 bits part bs w =
     (performed part End 0 (sent_in part bs w)).reply ∷ (performed part End 1 (sent_in part bs w)).reply ∷ (performed part End 2 (sent_in part bs w)).reply
     ∷ (performed part End 3 (sent_in part bs w)).reply ∷ (performed part End 4 (sent_in part bs w)).reply ∷ (performed part End 5 (sent_in part bs w)).reply
     ∷ (performed part End 6 (sent_in part bs w)).reply ∷ (performed part End 7 (sent_in part bs w)).reply ∷ []
 
 -- none at each of them; a driven 0; and the bits of the three bytes below: 0101 1010, 1100 0011, 1010 0101
-abbrev off : List Reply
-off = replicate 8 Off
+abbrev off : List (Option ℕ)
+off = replicate 8 None
 
-abbrev zeros : List Reply
+abbrev zeros : List (Option ℕ)
 zeros = numbers 0 0 0 0 0 0 0
 
-abbrev of5a : List Reply
+abbrev of5a : List (Option ℕ)
 of5a = numbers 0 1 2 5 11 22 45
 
-abbrev ofc3 : List Reply
+abbrev ofc3 : List (Option ℕ)
 ofc3 = numbers 1 3 6 12 24 48 97
 
-abbrev ofa5 : List Reply
+abbrev ofa5 : List (Option ℕ)
 ofa5 = numbers 1 2 5 10 20 41 82
 
 -- 5Ah at the first place of a memory, C3h behind it, A5h at its last
@@ -124,10 +122,10 @@ LeftoverShown =
     × ((performed 1 End 3 (sent_in 1 (0x13 ∷ 0x5f ∷ []) small)).number ≡ 0)
     × ((performed 1 End 3 (sent_in 1 (0x13 ∷ 0x5f ∷ []) small)).count ≡ 0)
     -- A34. a refused end answers none: eight leftover bits in a read, no frame, no power
-    × ((performed 1 End 8 (sent_in 1 (0x13 ∷ 0x5f ∷ []) small)).reply ≡ Off)
+    × ((performed 1 End 8 (sent_in 1 (0x13 ∷ 0x5f ∷ []) small)).reply ≡ None)
     × ((performed 1 End 8 (sent_in 1 (0x13 ∷ 0x5f ∷ []) small)).number ≡ 3)
-    × ((performed 1 End 3 small).reply ≡ Off) × ((performed 1 End 3 small).number ≡ 2)
-    × ((performed 1 End 3 (performed 1 Cut 0 (sent_in 1 (0x13 ∷ 0x5f ∷ []) small)).after).reply ≡ Off)
+    × ((performed 1 End 3 small).reply ≡ None) × ((performed 1 End 3 small).number ≡ 2)
+    × ((performed 1 End 3 (performed 1 Cut 0 (sent_in 1 (0x13 ∷ 0x5f ∷ []) small)).after).reply ≡ None)
 
 -- Each of them computes.
 pub leftover_shown : LeftoverShown

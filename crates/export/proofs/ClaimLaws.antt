@@ -14,7 +14,7 @@ use Rattle.base.proofs.Tests.{yes, no, pick_when, both_right, neither}
 use Rattle.record.specs.declared.Act.{Act}
 use Rattle.record.specs.declared.Act.TheVariants.{Select, Byte, End, Wait, Cut, Up, Set}
 use Rattle.record.specs.declared.Pin.TheVariants.{Evls, Evhs}
-use Rattle.record.specs.declared.Reply.TheVariants.{Off}
+use Rattle.std.specs.Prelude.{None}
 use Rattle.record.specs.Fresh.{fresh}
 use Rattle.record.specs.Numbers.{act_count, act_of, act_number}
 use Rattle.record.specs.Part.{is_part, size_of, id_size}
@@ -89,11 +89,11 @@ module _ (part : ℕ) (w : World) (s : Sound part w) where
       ∙ sym (yes (told (part_of its.state) (performed (part_of its.state) (act_of (act_number a)) n (world_in its))) (no_act its) (lt-ltb (act_number a) act_count (act_below a)))
       ∙ (λ i. told (part_first i) (performed (part_first i) (act_back a i) n (chip_in i)))
 
-  pub unnamed : (m n : ℕ) → 7 < m → acts its m n ≡ called 3 (answer_of 3 Off 0 w.device) its
+  pub unnamed : (m n : ℕ) → 7 < m → acts its m n ≡ called 3 (answer_of 3 None 0 w.device) its
   unnamed m n h =
       sym (judged m n)
       ∙ sym (no (told (part_of its.state) (performed (part_of its.state) (act_of m) n (world_in its))) (no_act its) (le-ltb m act_count (omega (arith, h))))
-      ∙ (λ i. called 3 (answer_of 3 Off 0 (chip_in i).device) its)
+      ∙ (λ i. called 3 (answer_of 3 None 0 (chip_in i).device) its)
 
   -- after an act the chip is in range again, where its array is one of bytes
   pub sound_after : (a : Act) (n : ℕ) → Bytes (acts its (act_number a) n).after.state → Sound part (performed part a n w).after

@@ -1,8 +1,7 @@
 -- What is claimed of a caller's arrays, for every array of bytes, act and argument. Read this first; it is proved in proofs/ClaimLaws.
 -- Assumes nothing.
-use Rattle.std.specs.Prelude.{ℕ, ◌<◌, ◌≡◌, ◌≢◌, ◌↔◌, true, List, [], ◌∷◌, length}
+use Rattle.std.specs.Prelude.{ℕ, ◌<◌, ◌≡◌, ◌≢◌, ◌↔◌, true, List, [], ◌∷◌, length, None}
 use Rattle.record.specs.declared.Act.{Act}
-use Rattle.record.specs.declared.Reply.TheVariants.{Off}
 use Rattle.record.specs.Numbers.{act_number}
 use Rattle.record.specs.Part.{is_part, size_of, id_size}
 use Rattle.record.specs.World.{World, Bytes, fresh_world}
@@ -49,7 +48,7 @@ pub record CallsRight : Type 0 where
   -- a number that names no act is refused by 3, with the levels of the chip
   pub unnamed :
       (part : ℕ) (w : World) → Sound part w → (m n : ℕ) → 7 < m
-      → acts (arrays_of part w) m n ≡ called 3 (answer_of 3 Off 0 w.device) (arrays_of part w)
+      → acts (arrays_of part w) m n ≡ called 3 (answer_of 3 None 0 w.device) (arrays_of part w)
   -- arrays are let through exactly if they are those of a chip in range
   pub exactly : (a : Arrays) → ByteArrays a → (state_refusal a ≡ 0) ↔ Held a
   -- others are refused, whatever the act

@@ -1,11 +1,9 @@
 -- The text of an answer. What the numbers and levels in it are is not said here.
 -- Assumes nothing.
-use Rattle.std.specs.Prelude.{ℕ, Bool, true, false, List, [], ◌∷◌, ◌++◌, eqb}
+use Rattle.std.specs.Prelude.{ℕ, Bool, true, false, List, [], ◌∷◌, ◌++◌, eqb, Option, Some, None}
 use Rattle.base.specs.Words.{pick, flag}
 use Rattle.record.specs.declared.Act.{Act}
 use Rattle.record.specs.declared.Act.TheVariants.{Select, Byte, End, Wait, Cut, Up, Set}
-use Rattle.record.specs.declared.Reply.{Reply}
-use Rattle.record.specs.declared.Reply.TheVariants.{Driven, Off}
 use Rattle.text.specs.Bytes.{bytes_of, newline}
 use Rattle.text.specs.Decimal.{decimal_text}
 use Rattle.lines.specs.declared.Out.{Out}
@@ -17,9 +15,9 @@ out_text (Value n) = decimal_text n
 out_text Z = bytes_of "z"
 
 -- A4, A38, G2. A reply is what the chip drives, a byte or the first bits of one, or none.
-abbrev pub reply_out : Reply → Out
-reply_out (Driven b) = Value b
-reply_out Off = Z
+abbrev pub reply_out : Option ℕ → Out
+reply_out (Some b) = Value b
+reply_out None = Z
 
 -- A6. A wait shows its ticks, a cut its count.
 abbrev pub shows_count : Act → Bool
@@ -32,7 +30,7 @@ shows_count Up = false
 shows_count (Set p) = false
 
 -- T8, A34. An act that is done shows its count or its reply; a refused one shows none.
-abbrev pub out_of : ℕ → Act → Reply → ℕ → Out
+abbrev pub out_of : ℕ → Act → Option ℕ → ℕ → Out
 out_of number act reply count = pick (eqb number 0) (pick (shows_count act) (Value count) (reply_out reply)) Z
 
 -- a level: 1 high, 0 low

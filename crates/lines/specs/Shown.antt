@@ -2,10 +2,9 @@
 -- go wrong together.
 -- Assumes nothing.
 use Prim.Native.String.{String}
-use Rattle.std.specs.Prelude.{◌≡◌, refl, true, false}
+use Rattle.std.specs.Prelude.{◌≡◌, refl, true, false, Some, None}
 use Rattle.record.specs.declared.Act.TheVariants.{Select, Byte, End, Wait, Cut, Up, Set}
 use Rattle.record.specs.declared.Pin.TheVariants.{Evls, Evhs}
-use Rattle.record.specs.declared.Reply.TheVariants.{Driven, Off}
 use Rattle.text.specs.Bytes.{bytes_of, agreed, leading, chosen}
 use Rattle.text.specs.Decimal.{value_from, text_within, decimal_text}
 use Rattle.lines.specs.declared.Request.{Request}
@@ -64,14 +63,14 @@ LinesShown =
     × (answer_line 3 Z false true ≡ bytes_of "no=3 out=z irq=0 wdo=1\n")
     × (answer_line 72 (Value 6) true true ≡ bytes_of "no=72 out=6 irq=1 wdo=1\n")
     -- T8, A6, A38. what it shows: a byte's reply, none where SO is off, a wait's and a cut's count, an end's bits, none where it is refused
-    × (out_of 0 Byte (Driven 0) 0 ≡ Value 0)
-    × (out_of 0 Byte Off 0 ≡ Z)
-    × (out_of 0 Wait Off 164 ≡ Value 164)
-    × (out_of 0 Cut Off 0 ≡ Value 0)
-    × (out_of 0 End Off 0 ≡ Z)
-    × (out_of 0 End (Driven 0) 0 ≡ Value 0)
-    × (out_of 0 End (Driven 82) 0 ≡ Value 82)
-    × (out_of 3 Wait Off 0 ≡ Z)
+    × (out_of 0 Byte (Some 0) 0 ≡ Value 0)
+    × (out_of 0 Byte None 0 ≡ Z)
+    × (out_of 0 Wait None 164 ≡ Value 164)
+    × (out_of 0 Cut None 0 ≡ Value 0)
+    × (out_of 0 End None 0 ≡ Z)
+    × (out_of 0 End (Some 0) 0 ≡ Value 0)
+    × (out_of 0 End (Some 82) 0 ≡ Value 82)
+    × (out_of 3 Wait None 0 ≡ Z)
 
 pub lines_shown : LinesShown
 unfolding LinesShown request_of name_size digits_text in_form form_reach name_of number_column chosen agreed leading value_from answer_line answer_chars fields_text decimal_text text_within

@@ -6,7 +6,7 @@ ghost use Rattle.record.specs.declared.Act.TheVariants.{Set};
 ghost use Rattle.record.specs.Numbers.{act_number, lock_of, lock_number, reply_number, place_of, place_kind, place_value, pair_of, pair_kind, pair_value, long_of, long_kind, stage_of, stage_kind, stage_case, stage_value, target_of, target_kind, target_value};
 
 use record::{
-    Act, ClockAddress, EepromAddress, IdAddress, Lock, Long, Pair, Pin, Place, Reply, Stage, Target,
+    Act, ClockAddress, EepromAddress, IdAddress, Lock, Long, Pair, Pin, Place, Stage, Target,
 };
 
 pub mod chip; // chip.rt: the whole list, and back
@@ -57,12 +57,12 @@ pub fn lock_number(lock: Lock) -> u8
 }
 
 // A driven byte by its value, or 256, which no byte is.
-pub fn reply_number(reply: Reply) -> u16
+pub fn reply_number(reply: Option<u8>) -> u16
     ensures { result ≡ reply_number reply }
 {
     match reply {
-        Reply::Driven(b) => b as u16,
-        Reply::Off => 256,
+        Some(b) => b as u16,
+        None => 256,
     }
 }
 

@@ -22,7 +22,7 @@ use Rattle.record.specs.declared.Stage.{Stage}
 use Rattle.record.specs.declared.Stage.TheVariants.{Idle, Opened, Unheard, Instruction, Reading, Writing, Second, Over}
 use Rattle.record.specs.declared.Target.{Target}
 use Rattle.record.specs.declared.Target.TheVariants.{Eeprom, Id, Status}
-use Rattle.record.specs.declared.Reply.TheVariants.{Driven, Off}
+use Rattle.std.specs.Prelude.{Some, None}
 use Rattle.record.specs.Numbers.{protection_of, protection_number, lock_of, lock_number, act_of, act_number, place_of, place_kind, place_value, pair_of, pair_kind, pair_value, long_of, long_kind, stage_of, stage_kind, stage_case, stage_value, target_of, target_kind, target_value, reply_of, reply_number}
 use Rattle.record.proofs.CodeLaws.{code_back}
 
@@ -88,8 +88,8 @@ target_back (Id a) = refl
 target_back (Status p) = ap Status (protection_back p)
 
 -- a driven byte is below 256, which is the number of none
-pub driven_back : (b : ℕ) → b < 256 → reply_of (reply_number (Driven b)) ≡ Driven b
+pub driven_back : (b : ℕ) → b < 256 → reply_of (reply_number (Some b)) ≡ Some b
 driven_back b h = simp (ne_eqb b 256 (λ e. omega arith))
 
-pub off_back : reply_of (reply_number Off) ≡ Off
+pub off_back : reply_of (reply_number None) ≡ None
 off_back = refl

@@ -1,7 +1,7 @@
 -- G11. The number of each case of each enum of the record and of the answer, and back: what a saved form or a reader may write for it. Codes are
 -- in Codes; protection is BP1 BP0.
 -- Assumes nothing.
-use Rattle.std.specs.Prelude.{ℕ, eqb}
+use Rattle.std.specs.Prelude.{ℕ, eqb, Option, Some, None}
 use Rattle.base.specs.Words.{pick}
 use Rattle.record.specs.declared.Protection.{Protection}
 use Rattle.record.specs.declared.Protection.TheVariants.{Nothing, Quarter, Half, All}
@@ -21,8 +21,6 @@ use Rattle.record.specs.declared.Stage.{Stage}
 use Rattle.record.specs.declared.Stage.TheVariants.{Idle, Opened, Unheard, Instruction, Reading, Writing, Second, Over}
 use Rattle.record.specs.declared.Target.{Target}
 use Rattle.record.specs.declared.Target.TheVariants.{Eeprom, Id, Status}
-use Rattle.record.specs.declared.Reply.{Reply}
-use Rattle.record.specs.declared.Reply.TheVariants.{Driven, Off}
 use Rattle.record.specs.Codes.{code_of, code_number}
 
 -- F29. BP1 BP0
@@ -67,12 +65,12 @@ abbrev pub act_of : ℕ → Act
 act_of n = pick (eqb n 0) Select (pick (eqb n 1) Byte (pick (eqb n 2) End (pick (eqb n 3) Wait (pick (eqb n 4) Cut (pick (eqb n 5) Up (pick (eqb n 6) (Set Evls) (Set Evhs)))))))
 
 -- a driven byte by its value; none, which no byte is
-abbrev pub reply_number : Reply → ℕ
-reply_number (Driven b) = b
-reply_number Off = 256
+abbrev pub reply_number : Option ℕ → ℕ
+reply_number (Some b) = b
+reply_number None = 256
 
-abbrev pub reply_of : ℕ → Reply
-reply_of n = pick (eqb n 256) Off (Driven n)
+abbrev pub reply_of : ℕ → Option ℕ
+reply_of n = pick (eqb n 256) None (Some n)
 
 -- a place by its memory, and its address
 abbrev pub place_kind : Place → ℕ

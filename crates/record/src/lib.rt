@@ -186,14 +186,6 @@ pub struct Device {
     pub events: Events,
 }
 
-// The answer on SO: what is driven, the byte of an exchange or the bits of one that an end broke off; or none, where SO is off or no bit was
-// clocked.
-#[derive(Clone, Copy)]
-pub enum Reply {
-    Driven(u8),
-    Off,
-}
-
 // The event inputs' pins.
 #[derive(Clone, Copy)]
 pub enum Pin {

@@ -14,8 +14,7 @@ use Rattle.record.specs.declared.Device.{Device}
 use Rattle.record.specs.declared.Place.{Place}
 use Rattle.record.specs.declared.Place.TheVariants.{EepromAt, ClockAt, IdAt}
 use Rattle.record.specs.declared.Protection.{Protection}
-use Rattle.record.specs.declared.Reply.{Reply}
-use Rattle.record.specs.declared.Reply.TheVariants.{Driven, Off}
+use Rattle.std.specs.Prelude.{Option, Some, None}
 use Rattle.record.specs.declared.Stage.{Stage}
 use Rattle.record.specs.declared.Stage.TheVariants.{Idle, Opened, Unheard, Instruction, Reading, Writing, Second, Over}
 use Rattle.record.specs.Codes.{is_code}
@@ -34,12 +33,12 @@ pub status_fits : (a b : Bool) (p : Protection) → flag a + flag b * 2 + protec
 status_fits a b p = omega (arith, flag_below a, flag_below b, protection_below p)
 
 -- a reply of a byte, or of none
-abbrev pub ByteOrNone : Reply → Type 0
-ByteOrNone (Driven b) = b < 256
-ByteOrNone Off = Unit {0}
+abbrev pub ByteOrNone : Option ℕ → Type 0
+ByteOrNone (Some b) = b < 256
+ByteOrNone None = Unit {0}
 
 -- a driven reply is not none
-pub driven_off : (n : ℕ) → Driven n ≡ Off → ⊥
+pub driven_off : (n : ℕ) → Some n ≡ None → ⊥
 driven_off n e = let z : ◌≡◌ {A = ℕ} 0 1 = cc in omega arith
 
 module _ (part : ℕ) (w : World) (r : InRange part w.device) (z : Shaped part w) where
@@ -69,17 +68,17 @@ module _ (part : ℕ) (w : World) (r : InRange part w.device) (z : Shaped part w
   unfolding next_reply
   reply_or_none = byte_at w.device.frame.stage
 
-  pub reply_byte : (b : ℕ) → next_reply w.eeprom w.id w.device ≡ Driven b → b < 256
+  pub reply_byte : (b : ℕ) → next_reply w.eeprom w.id w.device ≡ Some b → b < 256
   reply_byte b e = subst ByteOrNone e reply_or_none
 
 -- whether a reply is driven
-abbrev pub is_driven : Reply → Bool
-is_driven (Driven b) = true
-is_driven Off = false
+abbrev pub is_driven : Option ℕ → Bool
+is_driven (Some b) = true
+is_driven None = false
 
-pub off_undriven : (r : Reply) → is_driven r ≡ false → r ≡ Off
-off_undriven (Driven b) e = absurd (true≢false e)
-off_undriven Off e = refl
+pub off_undriven : (r : Option ℕ) → is_driven r ≡ false → r ≡ None
+off_undriven (Some b) e = absurd (true≢false e)
+off_undriven None e = refl
 
 -- SO is driven at these stages,
 abbrev pub driving : Stage → Bool
@@ -102,7 +101,7 @@ reply_driven ee id d Idle = refl
 reply_driven ee id d Opened = refl
 reply_driven ee id d Unheard = refl
 reply_driven ee id d (Instruction c) =
-    pick_when (λ (r : Reply). is_driven r ≡ is_code c Srread) (is_code c Srread) (λ t. sym t) (λ t. sym t)
+    pick_when (λ (r : Option ℕ). is_driven r ≡ is_code c Srread) (is_code c Srread) (λ t. sym t) (λ t. sym t)
 reply_driven ee id d (Reading p) = reading_driven ee id d p
 reply_driven ee id d (Writing p) = refl
 reply_driven ee id d (Second q) = refl
@@ -115,6 +114,6 @@ next_driven ee id d = reply_driven ee id d d.frame.stage
 -- A READ answers a time-stamp as it is stored.
 pub stamp_reply :
     (ee id : List ℕ) (d : Device) (a : ClockAddress) → d.frame.stage ≡ Reading (ClockAt a) → power_down_at ≤ a.0 → a.0 < 32
-    → next_reply ee id d ≡ Driven (get_or d.regs a.0 0)
+    → next_reply ee id d ≡ Some (get_or d.regs a.0 0)
 unfolding next_reply
-stamp_reply ee id d a e l h = ap (reply_at ee id d) e ∙ ap Driven (read_stamp d a l h)
+stamp_reply ee id d a e l h = ap (reply_at ee id d) e ∙ ap Some (read_stamp d a l h)

@@ -1,12 +1,13 @@
 #![tactic(auto)]
 
-// What the next whole exchange of a frame answers, and its first bits.
+// What the next whole exchange of a frame answers, and its first bits. A reply is what is driven on SO, the byte of an exchange or the bits of one
+// that an end broke off; or none, where SO is off or no bit was clocked.
 ghost use Rattle.std.specs.Prelude.{◌≡◌, ◌<◌, length, get_or};
 ghost use Rattle.base.specs.Words.{flag};
 ghost use Rattle.record.specs.Stages.{frame_place, eeprom_pointer, id_pointer};
 ghost use Rattle.replies.specs.Reply.{status_byte, instruction_reply, reading_reply, next_reply, first_bits, leftover_reply};
 
-use record::{Code, Device, EepromAddress, IdAddress, Place, Reply, Stage};
+use record::{Code, Device, EepromAddress, IdAddress, Place, Stage};
 
 fn one_if(test: bool) -> u8
     ensures { result ≡ flag test }
@@ -42,61 +43,59 @@ fn id_byte(id: &[u8], a: IdAddress) -> u8
     id[i]
 }
 
-fn instruction_reply(d: Device, code: Code) -> Reply
+fn instruction_reply(d: Device, code: Code) -> Option<u8>
     ensures { result ≡ instruction_reply d code }
 {
     let reads = code.is(Code::Srread);
     if reads {
-        return Reply::Driven(status(d));
+        return Some(status(d));
     }
-    Reply::Off
+    None
 }
 
-fn reading_reply(eeprom: &[u8], id: &[u8], d: Device, place: Place) -> Reply
+fn reading_reply(eeprom: &[u8], id: &[u8], d: Device, place: Place) -> Option<u8>
     requires { (eeprom_pointer place < length eeprom.now) × (id_pointer place < length id.now) }
     ensures { result ≡ reading_reply eeprom.now id.now d place }
 {
     match place {
-        Place::EepromAt(a) => Reply::Driven(eeprom_byte(eeprom, a)),
-        Place::ClockAt(a) => Reply::Driven(registers::read::read_clock(d, a)),
-        Place::IdAt(a) => Reply::Driven(id_byte(id, a)),
+        Place::EepromAt(a) => Some(eeprom_byte(eeprom, a)),
+        Place::ClockAt(a) => Some(registers::read::read_clock(d, a)),
+        Place::IdAt(a) => Some(id_byte(id, a)),
     }
 }
 
-pub fn next_reply(eeprom: &[u8], id: &[u8], d: Device) -> Reply
+pub fn next_reply(eeprom: &[u8], id: &[u8], d: Device) -> Option<u8>
     requires { (eeprom_pointer (frame_place d.frame.stage) < length eeprom.now) × (id_pointer (frame_place d.frame.stage) < length id.now) }
     ensures { result ≡ next_reply eeprom.now id.now d }
 {
     let frame = d.frame;
     let stage = frame.stage;
     match stage {
-        Stage::Idle => Reply::Off,
-        Stage::Opened => Reply::Off,
-        Stage::Unheard => Reply::Off,
+        Stage::Idle => None,
+        Stage::Opened => None,
+        Stage::Unheard => None,
         Stage::Instruction(c) => instruction_reply(d, c),
         Stage::Reading(p) => reading_reply(eeprom, id, d, p),
-        Stage::Writing(_) => Reply::Off,
-        Stage::Second(_) => Reply::Off,
-        Stage::Over(_) => Reply::Off,
+        Stage::Writing(_) => None,
+        Stage::Second(_) => None,
+        Stage::Over(_) => None,
     }
 }
 
 // A38, G2. The first k bits of a reply, the most significant first.
-fn first_bits(k: u8, reply: Reply) -> Reply
+fn first_bits(k: u8, reply: Option<u8>) -> Option<u8>
     requires { k < 8 }
     ensures { result ≡ first_bits k reply }
 {
-    let Reply::Driven(b) = reply else {
-        return reply; // Off
-    };
+    let b = reply?;
     if k == 0 {
-        return Reply::Off;
+        return None;
     }
-    Reply::Driven(b >> (8 - k))
+    Some(b >> (8 - k))
 }
 
 // A38. What an end with k leftover bits answers.
-pub fn leftover_reply(k: u8, eeprom: &[u8], id: &[u8], d: Device) -> Reply
+pub fn leftover_reply(k: u8, eeprom: &[u8], id: &[u8], d: Device) -> Option<u8>
     requires { (k < 8) × (eeprom_pointer (frame_place d.frame.stage) < length eeprom.now) × (id_pointer (frame_place d.frame.stage) < length id.now) }
     ensures { result ≡ leftover_reply k eeprom.now id.now d }
 {

@@ -11,8 +11,7 @@ use lib.Dec.{eqb}
 use Rattle.base.specs.Words.{pick}
 use Rattle.base.proofs.Tests.{by_cases, pick_case, pick_or, not_positive}
 use Rattle.record.specs.declared.Act.TheVariants.{Select, Byte, End, Wait}
-use Rattle.record.specs.declared.Reply.{Reply}
-use Rattle.record.specs.declared.Reply.TheVariants.{Driven, Off}
+use Rattle.std.specs.Prelude.{Option, Some, None}
 use Rattle.record.specs.declared.Stage.{Stage}
 use Rattle.record.specs.declared.Stage.TheVariants.{Idle, Opened}
 use Rattle.record.specs.Codes.{code_of}
@@ -58,7 +57,7 @@ module _ (part k v : ℕ) (w : World) (h : v < 256) (e : (performed part End k w
             (subst (λ (o : Outcome). BrokenOff k (accepted part v w Byte).reply o.reply) (sym as_end) b),
       )
 
-  none_by : ((performed part End k w).reply ≡ Off) ↔ ((k ≡ 0) ⊎ ((performed part Byte v w).reply ≡ Off))
+  none_by : ((performed part End k w).reply ≡ None) ↔ ((k ≡ 0) ⊎ ((performed part Byte v w).reply ≡ None))
   unfolding leftover_reply
   none_by =
       let n = first_none k (next_reply w.eeprom w.id w.device) in
@@ -84,15 +83,15 @@ no_count part k w =
     (λ t. ap (λ (o : Outcome). o.count) (refused_same part End k w t))
 
 -- an end that is refused
-refused_none : (part k : ℕ) (w : World) → (performed part End k w).number ≢ 0 → (performed part End k w).reply ≡ Off
+refused_none : (part k : ℕ) (w : World) → (performed part End k w).number ≢ 0 → (performed part End k w).reply ≡ None
 refused_none part k w n = ap (λ (o : Outcome). o.reply) (refused_same part End k w (ne_eqb _ 0 n))
 
 -- a number is below 2 to the power k
-broken_below : (k n : ℕ) (r : Reply) → BrokenOff k r (Driven n) → n < 2 ^ k
-broken_below k n (Driven b) x = x.1
-broken_below k n Off x = absurd x
+broken_below : (k n : ℕ) (r : Option ℕ) → BrokenOff k r (Some n) → n < 2 ^ k
+broken_below k n (Some b) x = x.1
+broken_below k n None x = absurd x
 
-number_below : (part k n : ℕ) (w : World) → Shaped part w → (performed part End k w).reply ≡ Driven n → n < 2 ^ k
+number_below : (part k n : ℕ) (w : World) → Shaped part w → (performed part End k w).reply ≡ Some n → n < 2 ^ k
 number_below part k n w z e =
     by_cases (eqb (performed part End k w).number 0)
     (λ t.
@@ -141,7 +140,7 @@ module _ (part : ℕ) where
 -- so of the frame of a select
 frame_none_lem :
     (part k : ℕ) (ps : List Piece) (w : World) → (performed part Select 0 w).number ≡ 0 → k < 8 → WholeBytes ps
-    → ((performed part End k (framed part ps w)).reply ≡ Off) ↔ ((k ≡ 0) ⊎ (so_driven part ps (performed part Select 0 w).after ≡ false))
+    → ((performed part End k (framed part ps w)).reply ≡ None) ↔ ((k ≡ 0) ⊎ (so_driven part ps (performed part Select 0 w).after ≡ false))
 unfolding leftover_reply
 frame_none_lem part k ps w e h z =
     let v : World = (performed part Select 0 w).after in

@@ -2,9 +2,8 @@
 -- frame, by the bytes that came in it, whether it answers any. `Shaped` asks for memories and arrays of their lengths with bytes in them, which the types
 -- give in code.
 -- Assumes nothing.
-use Rattle.std.specs.Prelude.{ℕ, ◌^◌, ◌<◌, ◌≡◌, Bool, true, false, ◌&&◌, ◌||◌, List, [], ◌∷◌, ◌↔◌, ◌⊎◌, ◌≢◌, eqb}
+use Rattle.std.specs.Prelude.{ℕ, ◌^◌, ◌<◌, ◌≡◌, Bool, true, false, ◌&&◌, ◌||◌, List, [], ◌∷◌, ◌↔◌, ◌⊎◌, ◌≢◌, eqb, Some, None}
 use Rattle.record.specs.declared.Act.TheVariants.{Select, Byte, End, Wait}
-use Rattle.record.specs.declared.Reply.TheVariants.{Driven, Off}
 use Rattle.record.specs.declared.Stage.TheVariants.{Idle}
 use Rattle.record.specs.Part.{is_part}
 use Rattle.record.specs.Setters.{with_stage, with_lock}
@@ -36,15 +35,15 @@ pub record LeftoverBits : Type 0 where
   -- it answers none exactly if k is 0 or SO is off, that is, the exchange would answer none
   pub none :
       (part k v : ℕ) (w : World) → v < 256 → (performed part End k w).number ≡ 0
-      → ((performed part End k w).reply ≡ Off) ↔ ((k ≡ 0) ⊎ ((performed part Byte v w).reply ≡ Off))
+      → ((performed part End k w).reply ≡ None) ↔ ((k ≡ 0) ⊎ ((performed part Byte v w).reply ≡ None))
   -- Of every frame that a select opens, whatever bytes and waits come in it: its end answers none exactly if k is 0 or, by these, SO is off.
   pub frame_none :
       (part k : ℕ) (ps : List Piece) (w : World) → (performed part Select 0 w).number ≡ 0 → k < 8 → WholeBytes ps
-      → ((performed part End k (framed part ps w)).reply ≡ Off) ↔ ((k ≡ 0) ⊎ (so_driven part ps (performed part Select 0 w).after ≡ false))
+      → ((performed part End k (framed part ps w)).reply ≡ None) ↔ ((k ≡ 0) ⊎ (so_driven part ps (performed part Select 0 w).after ≡ false))
   -- its number is below 2 to the power k
-  pub below : (part k n : ℕ) (w : World) → Shaped part w → (performed part End k w).reply ≡ Driven n → n < 2 ^ k
+  pub below : (part k n : ℕ) (w : World) → Shaped part w → (performed part End k w).reply ≡ Some n → n < 2 ^ k
   -- an end that is refused answers none
-  pub refused : (part k : ℕ) (w : World) → (performed part End k w).number ≢ 0 → (performed part End k w).reply ≡ Off
+  pub refused : (part k : ℕ) (w : World) → (performed part End k w).number ≢ 0 → (performed part End k w).reply ≡ None
   -- What else an end with leftover bits does: the frame is over, the lock may move (F33 to F36), and all else is as it was.
   pub rest :
       (part k : ℕ) (w : World) → 0 < k → (performed part End k w).number ≡ 0

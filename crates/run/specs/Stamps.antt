@@ -1,14 +1,13 @@
 -- What the time-stamps promise: of one act, of a power failure with all that may come in it, and of every run from fresh. `Shows` says what a
 -- time-stamp holds, in words apart from the copy.
 -- Assumes nothing.
-use Rattle.std.specs.Prelude.{ℕ, ◌%◌, ◌<◌, ◌≤◌, ◌≡◌, true, false, not, ◌&&◌, ◌⊎◌, ◌≢◌, List, [], ◌∷◌, get_or}
+use Rattle.std.specs.Prelude.{ℕ, ◌%◌, ◌<◌, ◌≤◌, ◌≡◌, true, false, not, ◌&&◌, ◌⊎◌, ◌≢◌, List, [], ◌∷◌, get_or, Some}
 use Rattle.base.specs.Words.{bit}
 use Rattle.record.specs.declared.Act.{Act}
 use Rattle.record.specs.declared.Act.TheVariants.{Byte, Cut, Up}
 use Rattle.record.specs.declared.Device.{Device}
 use Rattle.record.specs.declared.ClockAddress.{ClockAddress}
 use Rattle.record.specs.declared.Place.TheVariants.{ClockAt}
-use Rattle.record.specs.declared.Reply.TheVariants.{Driven}
 use Rattle.record.specs.declared.Stage.TheVariants.{Reading}
 use Rattle.record.specs.Part.{is_part}
 use Rattle.record.specs.Registers.{vbaten, vbat}
@@ -90,7 +89,7 @@ pub record TimeStamps : Type 0 where
   -- C5. a byte of a READ that stands at one of the eight answers it as it is
   pub read :
       (part arg : ℕ) (w : World) (a : ClockAddress) → (performed part Byte arg w).number ≡ 0 → w.device.frame.stage ≡ Reading (ClockAt a)
-      → 0x18 ≤ a.0 → a.0 < 0x20 → (performed part Byte arg w).reply ≡ Driven (get_or w.device.regs a.0 0)
+      → 0x18 ≤ a.0 → a.0 < 0x20 → (performed part Byte arg w).reply ≡ Some (get_or w.device.regs a.0 0)
   -- P17. nothing else changes a time-stamp, VBAT or the mark: no tick, no other act, no refused one; VBAT goes with 18h
   pub only :
       (part : ℕ) (act : Act) (arg : ℕ) (w : World) (k : ℕ) → Shaped part w → 0x18 ≤ k

@@ -27,7 +27,7 @@ use Rattle.record.specs.declared.Device.{Device}
 use Rattle.record.specs.declared.Pin.{Pin}
 use Rattle.record.specs.declared.Place.{Place}
 use Rattle.record.specs.declared.Place.TheVariants.{EepromAt, ClockAt, IdAt}
-use Rattle.record.specs.declared.Reply.TheVariants.{Off}
+use Rattle.std.specs.Prelude.{None}
 use Rattle.record.specs.declared.Stage.{Stage}
 use Rattle.record.specs.declared.Stage.TheVariants.{Idle, Opened, Unheard, Instruction, Reading, Writing, Second, Over}
 use Rattle.record.specs.Fresh.{fresh}
@@ -221,7 +221,7 @@ accepted_before_lem part arg w t Byte n =
     ap (λ (d : Device). outcome 0 (accepted part arg w Byte).reply 0 (moved w d)) (byte_before_lem (boots_of part) w.device arg t.quiet (top_of part))
 accepted_before_lem part arg w t End n = refl
 accepted_before_lem part arg w t Wait n = ap waited_outcome (wait_before (boots_of part) arg w t)
-accepted_before_lem part arg w t Cut n = ap (λ (v : World). outcome 0 Off (cut_count arg w.device) v) (cut_before_lem arg w t.quiet)
+accepted_before_lem part arg w t Cut n = ap (λ (v : World). outcome 0 None (cut_count arg w.device) v) (cut_before_lem arg w t.quiet)
 accepted_before_lem part arg w t Up n = refl
 accepted_before_lem part arg w t (Set p) n = absurd (n p refl)
 

@@ -2,7 +2,7 @@
 -- today's record and leaves its levels and counts alone. Six places differ from today's chip: a tick, the line IRQ, what stops a wait, what follows
 -- from a WRITE, a cut without the battery, and the rows of number 6. What is not said here anew is today's.
 -- Assumes nothing.
-use Rattle.std.specs.Prelude.{ℕ, ◌-◌, ◌≡◌, Bool, false, not, ◌&&◌, ◌||◌, List, [], ◌∷◌, ltb, eqb, length, get_or, set}
+use Rattle.std.specs.Prelude.{ℕ, ◌-◌, ◌≡◌, Bool, false, not, ◌&&◌, ◌||◌, List, [], ◌∷◌, ltb, eqb, length, get_or, set, Option, None}
 use Rattle.base.specs.Words.{pick, bit, any_of}
 use Rattle.base.specs.Wait.{Waited, waited_by}
 use Rattle.events.specs.declared.Inputs.{Inputs}
@@ -13,8 +13,6 @@ use Rattle.record.specs.declared.Device.{Device}
 use Rattle.record.specs.declared.Pin.{Pin}
 use Rattle.record.specs.declared.Place.{Place}
 use Rattle.record.specs.declared.Place.TheVariants.{EepromAt, ClockAt, IdAt}
-use Rattle.record.specs.declared.Reply.{Reply}
-use Rattle.record.specs.declared.Reply.TheVariants.{Off}
 use Rattle.record.specs.declared.Stage.{Stage}
 use Rattle.record.specs.declared.Stage.TheVariants.{Idle, Opened, Unheard, Instruction, Reading, Writing, Second, Over}
 use Rattle.record.specs.Fresh.{fresh_regs, fresh_sram, fresh_counters}
@@ -134,9 +132,9 @@ accepted_before part arg w Select = accepted part arg w Select
 accepted_before part arg w Byte = outcome 0 (accepted part arg w Byte).reply 0 (moved w (byte_before (boots_of part) (top_of part) arg w.device))
 accepted_before part arg w End = accepted part arg w End
 accepted_before part arg w Wait = waited_outcome (waited_before (boots_of part) arg w)
-accepted_before part arg w Cut = outcome 0 Off (cut_count arg w.device) (cut_before arg w)
+accepted_before part arg w Cut = outcome 0 None (cut_count arg w.device) (cut_before arg w)
 accepted_before part arg w Up = accepted part arg w Up
-accepted_before part arg w (Set p) = outcome 0 Off 0 w
+accepted_before part arg w (Set p) = outcome 0 None 0 w
 
 unfoldable pub performed_before : ℕ → Act → ℕ → World → Outcome
 performed_before part act arg w =
@@ -156,7 +154,7 @@ before = record { does = performed_before; irq = irq_before }
 -- what is seen of an act: the number, the reply, the count, and both lines after it
 pub record Seen : Type 0 where
   pub number : ℕ
-  pub reply : Reply
+  pub reply : Option ℕ
   pub count : ℕ
   pub irq : Bool
   pub wdo : Bool
