@@ -5,7 +5,6 @@ ghost use Rattle.std.specs.Prelude.{◌≡◌};
 ghost use Rattle.arrays.specs.Arrays.{arrays};
 ghost use Rattle.calls.specs.Calls.{called, acts};
 
-
 const ANSWER: usize = arrays::ANSWER;
 
 // One act by its number, with its argument. The answer: the refusal number, whether SO drives, what it drives, the count, both levels.

@@ -87,7 +87,9 @@ fn first_bits(k: u8, reply: Option<u8>) -> Option<u8>
     requires { k < 8 }
     ensures { result ≡ first_bits k reply }
 {
-    let b = reply?;
+    let Some(b) = reply else {
+        return None; // SO is off
+    };
     if k == 0 {
         return None;
     }
