@@ -11,6 +11,7 @@ use lib.Dec.{eqb}
 use lib.ListN.{length, take, drop, replicate, length-replicate}
 use lib.Seq.{take_all}
 use borrow.Author.Tests.{eqb-true, eq-eqb}
+use Rattle.std.specs.Prelude.{Option, None, Result, Ok, Err}
 use Rattle.base.specs.Words.{over}
 use Rattle.base.proofs.OverLaws.{over_start, over_whole}
 use Rattle.base.proofs.Tests.{by_cases, yes, no, pick_when}
@@ -28,29 +29,28 @@ use Rattle.acts.specs.declared.Answer.{Answer}
 use Rattle.acts.specs.Act.{Outcome, refusal_in, performed, outcome_of}
 use Rattle.acts.proofs.OutcomeLaws.{done_zero, refused_same}
 use Rattle.acts.proofs.SuitedLaws.{performed_follows}
+use Rattle.lines.specs.declared.Fault.{Fault}
 use Rattle.lines.specs.declared.Request.{Request}
-use Rattle.lines.specs.declared.Request.TheVariants.{PartLine, ActLine, Bad}
+use Rattle.lines.specs.declared.Request.TheVariants.{Part as PartLine, Act as ActLine}
 use Rattle.text.specs.Buffer.{Buffer, append}
 use Rattle.lines.specs.Request.{request_of}
-use Rattle.lines.specs.declared.Out.{Out}
-use Rattle.lines.specs.declared.Out.TheVariants.{Z}
-use Rattle.lines.specs.Print.{reply_out, shows_count, out_of}
+use Rattle.lines.specs.Print.{shows_count, out_of}
 use Rattle.answers.specs.Answer.{Setup, setup, no_part, fresh_setup, LineAnswer, answer, outcome_answer, act_answer, request_answer, line_answer, misplaced, RepliesShown, line_of, answer_text, Held, eeprom_bytes, id_bytes, setup_in, holding, Shown, shown_in, ready, line_in}
 
 -- what is shown of an act without a count: its reply, where it is done, and none, which is a refused act's reply too
 reply_shown : (part : ℕ) (act : Act) (arg : ℕ) (s : Setup) → shows_count act ≡ false
-    → (outcome_answer part act (performed part act arg s.chip)).out ≡ reply_out (performed part act arg s.chip).reply
+    → (outcome_answer part act (performed part act arg s.chip)).out ≡ (performed part act arg s.chip).reply
 reply_shown part act arg s c =
     by_cases (eqb (performed part act arg s.chip).number 0)
-    (λ t. sym (yes _ Z t) ∙ sym (no _ _ c))
-    (λ t. sym (no _ Z t) ∙ ap reply_out (sym (ap (λ (o : Outcome). o.reply) (refused_same part act arg s.chip t))))
+    (λ t. sym (yes _ None t) ∙ sym (no _ _ c))
+    (λ t. sym (no _ None t) ∙ sym (ap (λ (o : Outcome). o.reply) (refused_same part act arg s.chip t)))
 
 line_shown :
-    (line : List ℕ) (act : Act) (arg : ℕ) (s : Setup) → request_of line ≡ ActLine act arg → no_part s ≡ false → shows_count act ≡ false
-    → (line_answer line s).out ≡ reply_out (performed s.part act arg s.chip).reply
+    (line : List ℕ) (act : Act) (arg : ℕ) (s : Setup) → request_of line ≡ Ok (ActLine act arg) → no_part s ≡ false → shows_count act ≡ false
+    → (line_answer line s).out ≡ (performed s.part act arg s.chip).reply
 unfolding line_answer
 line_shown line act arg s e f c =
-    ap (λ (r : Request). (request_answer r s).out) e
+    ap (λ (r : Result Request Fault). (request_answer r s).out) e
     ∙ ap (λ (a : LineAnswer). a.out) (sym (no (misplaced s) _ f))
     ∙ reply_shown s.part act arg s c
 
@@ -68,7 +68,7 @@ pub replies_shown_lem : RepliesShown
 unfolding RepliesShown
 replies_shown_lem line act arg s e f w c =
     let q = line_shown line act arg s e f (counts_not act w c) in
-    (λ n r. q ∙ ap reply_out r, λ r. q ∙ ap reply_out r)
+    (λ n r. q ∙ r, λ r. q ∙ r)
 
 -- A refused line changes nothing: a part that is refused does not count, and an act that is refused leaves the chip as it was.
 abbrev LeavesSetup : Setup → LineAnswer → Type 0
@@ -81,11 +81,11 @@ act_kept act arg s =
     (λ t h. absurd (true≢false (sym (ap (λ (k : ℕ). eqb k 0) (done_zero s.part arg s.chip act)) ∙ h)))
     (λ f h. refl)
 
-request_kept : (r : Request) (s : Setup) → LeavesSetup s (request_answer r s)
-request_kept (PartLine arg) s =
+request_kept : (r : Result Request Fault) (s : Setup) → LeavesSetup s (request_answer r s)
+request_kept (Ok (PartLine arg)) s =
     pick_when (LeavesSetup s) (no_part s) (λ t. pick_when (LeavesSetup s) (is_part arg) (λ p h. absurd (true≢false h)) (λ p h. refl)) (λ f h. refl)
-request_kept (ActLine act arg) s = pick_when (LeavesSetup s) (no_part s) (λ t h. refl) (λ f. act_kept act arg s)
-request_kept (Bad number column) s = λ h. refl
+request_kept (Ok (ActLine act arg)) s = pick_when (LeavesSetup s) (no_part s) (λ t h. refl) (λ f. act_kept act arg s)
+request_kept (Err fault) s = λ h. refl
 
 pub refused_setup : (line : List ℕ) (s : Setup) → eqb (line_answer line s).number 0 ≡ false → (line_answer line s).after ≡ s
 unfolding line_answer
@@ -93,14 +93,14 @@ refused_setup line s = request_kept (request_of line) s
 
 -- a line's answer is that of its request
 pub asked_shown :
-    (line : List ℕ) (h : Held) (o : Buffer) (r : Request) {x : Shown} → request_of line ≡ r → x ≡ shown_in h o (request_answer r (setup_in h))
+    (line : List ℕ) (h : Held) (o : Buffer) (r : Result Request Fault) {x : Shown} → request_of line ≡ r → x ≡ shown_in h o (request_answer r (setup_in h))
     → x ≡ shown_in h o (line_answer line (setup_in h))
 unfolding line_answer
-asked_shown line h o r e f = f ∙ ap (λ (y : Request). shown_in h o (request_answer y (setup_in h))) (sym e)
+asked_shown line h o r e f = f ∙ ap (λ (y : Result Request Fault). shown_in h o (request_answer y (setup_in h))) (sym e)
 
 -- an answer's line as the code puts it
 pub told_shown :
-    (h : Held) (o p : Buffer) (number : ℕ) (out : Out) → p ≡ append o (line_of number out h.part h.device)
+    (h : Held) (o p : Buffer) (number : ℕ) (out : Option ℕ) → p ≡ append o (line_of number out h.part h.device)
     → ◌≡◌ {A = Shown} (record { after = h; written = p }) (line_in h o number out)
 told_shown h o p number out e = λ i. record { after = h; written = e i }
 
@@ -118,7 +118,7 @@ pub same_held : (h : Held) → holding h (setup_in h) ≡ h
 same_held h =
     λ i. record { part = h.part; device = h.device; eeprom = over_start (eeprom_bytes h.part) h.eeprom i; id = over_start (id_bytes h.part) h.id i }
 
-pub refused_shown : (h : Held) (o : Buffer) (number : ℕ) (out : Out) → line_in h o number out ≡ shown_in h o (answer number out (setup_in h))
+pub refused_shown : (h : Held) (o : Buffer) (number : ℕ) (out : Option ℕ) → line_in h o number out ≡ shown_in h o (answer number out (setup_in h))
 unfolding shown_in answer_text
 refused_shown h o number out = ap (λ (x : Held). line_in x o number out) (sym (same_held h))
 
@@ -133,7 +133,7 @@ held_id part e = sym (no 0 id_size e)
 pub fresh_shown :
     (h : Held) (o : Buffer) (part : ℕ) (d : Device) (x ee id : List ℕ) → length h.id ≡ id_size → d ≡ fresh
     → x ≡ replicate (size_of part) 0xff → ee ≡ x ++ drop (size_of part) h.eeprom → id ≡ replicate (length h.id) 0xff
-    → line_in (record { part = part; device = d; eeprom = ee; id = id }) o 0 Z ≡ shown_in h o (answer 0 Z (fresh_setup part))
+    → line_in (record { part = part; device = d; eeprom = ee; id = id }) o 0 None ≡ shown_in h o (answer 0 None (fresh_setup part))
 unfolding shown_in answer_text
 fresh_shown h o part d x ee id l f e m k =
     let s : List ℕ = replicate (size_of part) 0xff in
@@ -143,11 +143,11 @@ fresh_shown h o part d x ee id l f e m k =
     ∙ ap (λ (n : ℕ). s ++ drop n h.eeprom) (sym (length-replicate {A = ℕ} (size_of part) 0xff)) in
     let q : id ≡ over r h.id =
     k ∙ ap (λ (n : ℕ). replicate n 0xff) l ∙ sym (over_whole r h.id (length-replicate {A = ℕ} id_size 0xff ∙ sym l)) in
-    λ i. line_in (record { part = part; device = f i; eeprom = p i; id = q i }) o 0 Z
+    λ i. line_in (record { part = part; device = f i; eeprom = p i; id = q i }) o 0 None
 
 -- the code's outcome of an act on the part's own bytes
 pub outcome_shown :
-    (h : Held) (o : Buffer) (act : Act) (arg : ℕ) (a : Answer) (x id : List ℕ) (out : Out) → eqb h.part 0 ≡ false → length h.id ≡ id_size
+    (h : Held) (o : Buffer) (act : Act) (arg : ℕ) (a : Answer) (x id : List ℕ) (out : Option ℕ) → eqb h.part 0 ≡ false → length h.id ≡ id_size
     → length x ≡ size_of h.part → length id ≡ length h.id → out ≡ out_of a.number act a.reply a.count
     → outcome_of a x id ≡ performed h.part act arg (world h.device (take (size_of h.part) h.eeprom) h.id)
     → line_in (record { part = h.part; device = a.device; eeprom = x ++ drop (size_of h.part) h.eeprom; id = id }) o a.number out
@@ -194,12 +194,12 @@ act_ready act arg s some r =
     let k = performed_follows s.part act arg s.chip (in_range_lem s.part s.chip.device g.ranged) in
     ready_in_range s.part (performed s.part act arg s.chip).after.device g.known k.range
 
-request_ready : (r : Request) (s : Setup) → ReadySetup s → ReadySetup (request_answer r s).after
-request_ready (PartLine arg) s h =
+request_ready : (r : Result Request Fault) (s : Setup) → ReadySetup s → ReadySetup (request_answer r s).after
+request_ready (Ok (PartLine arg)) s h =
     let P : LineAnswer → Type 0 = λ a. ReadySetup a.after in
     pick_when P (no_part s) (λ t. pick_when P (is_part arg) (λ p. ready_in_range arg fresh p (fresh_facts arg)) (λ p. h)) (λ f. h)
-request_ready (ActLine act arg) s h = pick_when (λ (a : LineAnswer). ReadySetup a.after) (no_part s) (λ t. h) (λ f. act_ready act arg s f h)
-request_ready (Bad number column) s h = h
+request_ready (Ok (ActLine act arg)) s h = pick_when (λ (a : LineAnswer). ReadySetup a.after) (no_part s) (λ t. h) (λ f. act_ready act arg s f h)
+request_ready (Err fault) s h = h
 
 pub line_ready : (line : List ℕ) (s : Setup) → ReadySetup s → ReadySetup (line_answer line s).after
 unfolding line_answer

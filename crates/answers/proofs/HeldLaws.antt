@@ -9,6 +9,7 @@ use native.Mathlib.Omega.{arith}
 use lib.Dec.{eqb}
 use lib.ListN.{length, length-replicate}
 use lib.Seq.{length-take-le}
+use Rattle.std.specs.Prelude.{Result, Ok, Err}
 use Rattle.base.proofs.OverLaws.{over_over, take_over}
 use Rattle.base.proofs.Tests.{by_cases, yes, no, pick_case, pick_when}
 use Rattle.record.specs.Part.{is_part, size_of, id_size}
@@ -19,8 +20,9 @@ use Rattle.refusals.proofs.RangeLaws.{in_range_lem}
 use Rattle.refusals.proofs.TableLaws.{setup_passed}
 use Rattle.acts.specs.Act.{performed}
 use Rattle.acts.proofs.SuitedLaws.{performed_follows}
+use Rattle.lines.specs.declared.Fault.{Fault}
 use Rattle.lines.specs.declared.Request.{Request}
-use Rattle.lines.specs.declared.Request.TheVariants.{PartLine, ActLine, Bad}
+use Rattle.lines.specs.declared.Request.TheVariants.{Part as PartLine, Act as ActLine}
 use Rattle.lines.specs.Request.{request_of}
 use Rattle.answers.specs.Answer.{Setup, setup, no_part, fresh_setup, LineAnswer, misplaced, request_answer, line_answer, Held, eeprom_bytes, id_bytes, setup_in, holding, eeprom_room, Lent, ready}
 use Rattle.answers.proofs.AnswerLaws.{ready_suits, line_ready, same_held}
@@ -62,14 +64,14 @@ act_lengths act arg s f g =
     let q = performed_follows s.part act arg s.chip (in_range_lem s.part s.chip.device k.ranged) in
     (q.eeprom ∙ g.eeprom, q.id ∙ g.id)
 
-request_lengths : (r : Request) (s : Setup) → Sound s → Lengths (request_answer r s).after
-request_lengths (PartLine arg) s g =
+request_lengths : (r : Result Request Fault) (s : Setup) → Sound s → Lengths (request_answer r s).after
+request_lengths (Ok (PartLine arg)) s g =
     let P : LineAnswer → Type 0 = λ a. Lengths a.after in
     let same : Lengths s = (g.eeprom, g.id) in
     pick_case P (no_part s) (pick_when P (is_part arg) (fresh_lengths arg) (λ p. same)) same
-request_lengths (ActLine act arg) s g =
+request_lengths (Ok (ActLine act arg)) s g =
     pick_when (λ (a : LineAnswer). Lengths a.after) (no_part s) (λ t. (g.eeprom, g.id)) (λ f. act_lengths act arg s f g)
-request_lengths (Bad number column) s g = (g.eeprom, g.id)
+request_lengths (Err fault) s g = (g.eeprom, g.id)
 
 pub line_sound : (line : List ℕ) (s : Setup) → Sound s → Sound (line_answer line s).after
 unfolding line_answer
@@ -78,10 +80,10 @@ line_sound line s g =
     record { goes = line_ready line s g.goes; eeprom = l.0; id = l.1 }
 
 -- a part that was accepted stays
-request_part : (r : Request) (s : Setup) → no_part s ≡ false → (request_answer r s).after.part ≡ s.part
-request_part (PartLine arg) s f = ap (λ (a : LineAnswer). a.after.part) (sym (no _ (misplaced s) f))
-request_part (ActLine act arg) s f = pick_case (λ (a : LineAnswer). a.after.part ≡ s.part) (no_part s) refl refl
-request_part (Bad number column) s f = refl
+request_part : (r : Result Request Fault) (s : Setup) → no_part s ≡ false → (request_answer r s).after.part ≡ s.part
+request_part (Ok (PartLine arg)) s f = ap (λ (a : LineAnswer). a.after.part) (sym (no _ (misplaced s) f))
+request_part (Ok (ActLine act arg)) s f = pick_case (λ (a : LineAnswer). a.after.part ≡ s.part) (no_part s) refl refl
+request_part (Err fault) s f = refl
 
 -- so the memories do not become shorter: there are none before a part
 line_longer :

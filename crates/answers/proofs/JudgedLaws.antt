@@ -8,17 +8,19 @@ use mathlib.Core.List.{List, [], ◌∷◌}
 use Prim.Native.Nat.{ℕ, ◌<◌}
 use native.Mathlib.Omega.{arith}
 use borrow.Author.Tests.{lt-ltb, le-ltb}
+use Rattle.std.specs.Prelude.{Result, Ok, Err}
 use Rattle.base.proofs.Tests.{by_cases, yes, no, pick_case}
 use Rattle.record.specs.declared.Act.{Act}
 use Rattle.record.specs.Part.{is_part}
 use Rattle.acts.specs.Act.{performed}
 use Rattle.acts.proofs.OutcomeLaws.{never_seven}
 use Rattle.text.specs.Decimal.{value_of}
-use Rattle.lines.specs.declared.Name.TheVariants.{PartName, ActName}
+use Rattle.lines.specs.declared.Name.TheVariants.{Part as PartName, Act as ActName}
+use Rattle.lines.specs.declared.Fault.{Fault}
 use Rattle.lines.specs.declared.Request.{Request}
-use Rattle.lines.specs.declared.Request.TheVariants.{PartLine, ActLine, Bad}
+use Rattle.lines.specs.declared.Request.TheVariants.{Part as PartLine, Act as ActLine}
 use Rattle.lines.specs.Line.{name_of, name_text, digits_text}
-use Rattle.lines.specs.Request.{asked, is_bad, bad_line, request_of}
+use Rattle.lines.specs.Request.{asked_by, is_bad, fault_number, fault_column, Bad, bad_line, request_of}
 use Rattle.lines.specs.Faults.{LineRow, line_rows, FirstRow, NoRow}
 use Rattle.lines.specs.Read.{shown_or}
 use Rattle.lines.proofs.LineLaws.{TwoDigits, fault_small, fault_exactly, no_fault, first_append, none_append, listed_asks, spelled_formed, asks_exactly, bad_as_before, good_request}
@@ -40,24 +42,37 @@ same_column : {m n c d : ℕ} {s : Setup} → faulty_line m c s ≡ faulty_line 
 same_column e = ap (λ (a : LineAnswer). shown_or 0 a.out) e
 
 -- no request is two
-not_both : {act : Act} {m n : ℕ} → PartLine m ≡ ActLine act n → ⊥
+not_both : {act : Act} {m n : ℕ} → ◌≡◌ {A = Result Request Fault} (Ok (PartLine m)) (Ok (ActLine act n)) → ⊥
 not_both e = let z : ◌≡◌ {A = ℕ} 0 1 = cc in omega arith
+
+-- and a request that is bad is not good
+bad_is : (r : Result Request Fault) (number column : ℕ) → is_bad r ≡ false → Bad r number column → ⊥
+bad_is (Ok request) number column g b = b
+bad_is (Err fault) number column g b = true≢false g
 
 module _ (line : List ℕ) (s : Setup) where
   -- the row of the part
   last : List LineRow
   last = record { number = 74; holds = PartRow line s } ∷ []
 
-  answered : (r : Request) → request_of line ≡ r → line_answer line s ≡ request_answer r s
+  answered : (r : Result Request Fault) → request_of line ≡ r → line_answer line s ≡ request_answer r s
   unfolding line_answer
-  answered r e = ap (λ (x : Request). request_answer x s) e
+  answered r e = ap (λ (x : Result Request Fault). request_answer x s) e
 
-  before_good : (r : Request) → request_of line ≡ r → is_bad r ≡ false → answer_before line s ≡ request_before r s
+  before_good : (r : Result Request Fault) → request_of line ≡ r → is_bad r ≡ false → answer_before line s ≡ request_before r s
   unfolding answer_before
   before_good r e b =
       let f : bad_line line ≡ false = sym (bad_as_before line) ∙ ap is_bad e ∙ b in
-      sym (no (refused_line 7 s) (request_before (asked (name_of (name_text line)) (value_of (digits_text line))) s) f)
-      ∙ ap (λ (x : Request). request_before x s) (sym (good_request line f) ∙ e)
+      sym (no (refused_line 7 s) (request_before (asked_by (name_of (name_text line)) (value_of (digits_text line))) s) f)
+      ∙ ap (λ (x : Result Request Fault). request_before x s) (sym (good_request line f) ∙ e)
+
+  -- a bad request is answered with its number and column
+  bad_answered : (r : Result Request Fault) (number column : ℕ) → request_of line ≡ r → Bad r number column → line_answer line s ≡ faulty_line number column s
+  bad_answered (Ok request) number column e b = absurd b
+  bad_answered (Err fault) number column e b = answered (Err fault) e ∙ (λ i. faulty_line (b.0 i) (b.1 i) s)
+
+  not_bad : is_bad (request_of line) ≡ false → (number column : ℕ) → FirstRow (line_rows line) number column → ⊥
+  not_bad g number column h = bad_is (request_of line) number column g ((fault_exactly line number column).1 h)
 
   -- a row that gives the answer gives one number and one column
   only_once :
@@ -68,19 +83,22 @@ module _ (line : List ℕ) (s : Setup) where
       (same_number e, same_column e)
 
   -- a line that is bad by itself
-  bad_judged : (number column : ℕ) → request_of line ≡ Bad number column → Judged line s
+  bad_judged : (fault : Fault) → request_of line ≡ Err fault → Judged line s
   unfolding answer_before last
-  bad_judged number column e =
-      let a = answered (Bad number column) e in
+  bad_judged fault e =
+      let number = fault_number fault in
+      let column = fault_column fault in
+      let a = answered (Err fault) e in
       let large : 70 < number = (subst TwoDigits e (fault_small line)).0 in
-      let first : FirstRow (line_rows line) number column = (fault_exactly line number column).0 e in
+      let first : FirstRow (line_rows line) number column =
+      (fault_exactly line number column).0 (subst (λ (r : Result Request Fault). Bad r number column) (sym e) (refl, refl)) in
       let not_good : is_bad (request_of line) ≡ false → ⊥ = λ g. true≢false (sym (ap is_bad e) ∙ g) in
       let b : bad_line line ≡ true = sym (bad_as_before line) ∙ ap is_bad e in
       let rows : (m d : ℕ) → FirstRow (tape_rows line s) m d → (line_answer line s ≡ faulty_line m d s) × (6 < m) =
       λ m d h. ⊎_elim
       (λ f.
-      let r = (fault_exactly line m d).1 f in
-      (answered (Bad m d) r, omega (arith, (subst TwoDigits r (fault_small line)).0)))
+      let r : Bad (Err fault) m d = subst (λ (r : Result Request Fault). Bad r m d) e ((fault_exactly line m d).1 f) in
+      (bad_answered (Err fault) m d e r, omega (arith, large, r.0)))
       (λ n. absurd (not_good ((no_fault line).1 n.0)))
       ((first_append (line_rows line) last m d).0 h) in
       record {
@@ -101,7 +119,7 @@ module _ (line : List ℕ) (s : Setup) where
         before =
             ap together a
             ∙ sym (yes (refused_line 7 s) (faulty_line number column s) (lt-ltb 6 number (omega (arith, large))))
-            ∙ yes (refused_line 7 s) (request_before (asked (name_of (name_text line)) (value_of (digits_text line))) s) b;
+            ∙ yes (refused_line 7 s) (request_before (asked_by (name_of (name_text line)) (value_of (digits_text line))) s) b;
       }
 
   -- a line that is good by itself, with its part out of its place
@@ -109,7 +127,7 @@ module _ (line : List ℕ) (s : Setup) where
   unfolding FirstRow NoRow last
   misplaced_judged g a row seven b =
       let rows : (m d : ℕ) → FirstRow (tape_rows line s) m d → (line_answer line s ≡ faulty_line m d s) × (6 < m) =
-      λ m d h. ⊎_elim (λ f. absurd (true≢false (sym (ap is_bad ((fault_exactly line m d).1 f)) ∙ g)))
+      λ m d h. ⊎_elim (λ f. absurd (not_bad g m d f))
       (λ n. ⊎_elim (λ x. (a ∙ (λ i. faulty_line (sym x.1 i) (sym x.0.at i) s), omega (arith, x.1))) (λ x. absurd x.1) n.1)
       ((first_append (line_rows line) last m d).0 h) in
       record {
@@ -138,7 +156,7 @@ module _ (line : List ℕ) (s : Setup) where
   placed_judged g below none never b =
       let clear : NoRow (tape_rows line s) = (none_append (line_rows line) last).1 ((no_fault line).0 g, (none, tt)) in
       let rows : (m d : ℕ) → FirstRow (tape_rows line s) m d → ⊥ =
-      λ m d h. ⊎_elim (λ f. true≢false (sym (ap is_bad ((fault_exactly line m d).1 f)) ∙ g))
+      λ m d h. ⊎_elim (not_bad g m d)
       (λ n. ⊎_elim (λ x. none d x.0) (λ x. x.1) n.1)
       ((first_append (line_rows line) last m d).0 h) in
       record {
@@ -153,12 +171,12 @@ module _ (line : List ℕ) (s : Setup) where
         before = sym (no (refused_line 7 (line_answer line s).after) (line_answer line s) (le-ltb 6 (line_answer line s).number (omega (arith, below)))) ∙ b;
       }
 
-  part_judged : (arg : ℕ) → request_of line ≡ PartLine arg → Judged line s
+  part_judged : (arg : ℕ) → request_of line ≡ Ok (PartLine arg) → Judged line s
   part_judged arg e =
       let g : is_bad (request_of line) ≡ false = ap is_bad e in
-      let a = answered (PartLine arg) e in
-      let b = before_good (PartLine arg) e refl in
-      let w = spelled_formed line PartName arg ((asks_exactly line PartName arg refl).0 e) in
+      let a = answered (Ok (PartLine arg)) e in
+      let b = before_good (Ok (PartLine arg)) e refl in
+      let w = spelled_formed line PartName arg ((asks_exactly line PartName arg).0 e) in
       by_cases (no_part s)
       (λ t.
       placed_judged g (rw a (part_below arg s t))
@@ -174,12 +192,12 @@ module _ (line : List ℕ) (s : Setup) where
       part_never t (early act m q u) = not_both (sym e ∙ q)
       part_never t (again m q f) = true≢false (sym t ∙ f)
 
-  act_judged : (act : Act) (arg : ℕ) → request_of line ≡ ActLine act arg → Judged line s
+  act_judged : (act : Act) (arg : ℕ) → request_of line ≡ Ok (ActLine act arg) → Judged line s
   act_judged act arg e =
       let g : is_bad (request_of line) ≡ false = ap is_bad e in
-      let a = answered (ActLine act arg) e in
-      let b = before_good (ActLine act arg) e refl in
-      let w = spelled_formed line (ActName act) arg ((asks_exactly line (ActName act) arg refl).0 e) in
+      let a = answered (Ok (ActLine act arg)) e in
+      let b = before_good (Ok (ActLine act arg)) e refl in
+      let w = spelled_formed line (ActName act) arg ((asks_exactly line (ActName act) arg).0 e) in
       let o : LineAnswer = outcome_answer s.part act (performed s.part act arg s.chip) in
       by_cases (no_part s)
       (λ t.
@@ -196,10 +214,10 @@ module _ (line : List ℕ) (s : Setup) where
       act_never f (early act m q t) = true≢false (sym t ∙ f)
       act_never f (again m q t) = not_both (sym q ∙ e)
 
-  judged : (r : Request) → request_of line ≡ r → Judged line s
-  judged (PartLine arg) e = part_judged arg e
-  judged (ActLine act arg) e = act_judged act arg e
-  judged (Bad number column) e = bad_judged number column e
+  judged : (r : Result Request Fault) → request_of line ≡ r → Judged line s
+  judged (Ok (PartLine arg)) e = part_judged arg e
+  judged (Ok (ActLine act arg)) e = act_judged act arg e
+  judged (Err fault) e = bad_judged fault e
 
 -- T16, T17. so it is with every line
 pub lines_judged : LinesJudged

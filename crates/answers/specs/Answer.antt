@@ -1,6 +1,6 @@
 -- What a line answers, and what the chip on the tape is after it. What an act does is not said here: it is the act's definition.
 -- Assumes nothing.
-use Rattle.std.specs.Prelude.{ℕ, ◌≡◌, Bool, false, not, ◌||◌, List, ◌≢◌, eqb, length, take, Some, None}
+use Rattle.std.specs.Prelude.{ℕ, ◌≡◌, Bool, false, not, ◌||◌, List, ◌≢◌, eqb, length, take, Option, Some, None, Result, Ok, Err}
 use Rattle.base.specs.Words.{pick, over}
 use Rattle.record.specs.declared.Act.{Act}
 use Rattle.record.specs.declared.Act.TheVariants.{Wait, Cut}
@@ -11,11 +11,10 @@ use Rattle.refusals.specs.Refusal.{setup_refusal}
 use Rattle.ticks.specs.Lines.{irq_low, wdo_low}
 use Rattle.acts.specs.Act.{Outcome, performed}
 use Rattle.text.specs.Buffer.{Buffer, buffer, append}
+use Rattle.lines.specs.declared.Fault.{Fault}
 use Rattle.lines.specs.declared.Request.{Request}
-use Rattle.lines.specs.declared.Request.TheVariants.{PartLine, ActLine, Bad}
-use Rattle.lines.specs.declared.Out.{Out}
-use Rattle.lines.specs.declared.Out.TheVariants.{Value, Z}
-use Rattle.lines.specs.Request.{request_of}
+use Rattle.lines.specs.declared.Request.TheVariants.{Part as PartLine, Act as ActLine}
+use Rattle.lines.specs.Request.{request_of, fault_number, fault_column}
 use Rattle.lines.specs.Print.{out_of, answer_line}
 use Rattle.answers.specs.declared.Progress.{Progress}
 
@@ -37,19 +36,19 @@ fresh_setup part = setup part (fresh_world part)
 -- an answer: its number, what it shows, and what is left
 pub record LineAnswer : Type 0 where
   pub number : ℕ
-  pub out : Out
+  pub out : Option ℕ
   pub after : Setup
 
-abbrev pub answer : ℕ → Out → Setup → LineAnswer
+abbrev pub answer : ℕ → Option ℕ → Setup → LineAnswer
 answer number out after = record { number = number; out = out; after = after }
 
 -- A34. A line that is refused shows none and changes nothing.
 abbrev pub refused_line : ℕ → Setup → LineAnswer
-refused_line number s = answer number Z s
+refused_line number s = answer number None s
 
 -- A31, A34. A line that is bad shows its column, and changes nothing.
 abbrev pub faulty_line : ℕ → ℕ → Setup → LineAnswer
-faulty_line number column s = answer number (Value column) s
+faulty_line number column s = answer number (Some column) s
 
 -- T6, T18. An act before the part, or a part again, has no column of its own.
 abbrev pub misplaced : Setup → LineAnswer
@@ -57,7 +56,7 @@ misplaced s = faulty_line 74 0 s
 
 -- T6, T7. A part is taken once. One that is none of the four is refused with 3, and the tape stays without a part.
 abbrev pub part_answer : ℕ → Setup → LineAnswer
-part_answer arg s = pick (no_part s) (pick (is_part arg) (answer 0 Z (fresh_setup arg)) (refused_line 3 s)) (misplaced s)
+part_answer arg s = pick (no_part s) (pick (is_part arg) (answer 0 None (fresh_setup arg)) (refused_line 3 s)) (misplaced s)
 
 -- what an act's outcome shows
 abbrev pub outcome_answer : ℕ → Act → Outcome → LineAnswer
@@ -67,10 +66,10 @@ outcome_answer part act o = answer o.number (out_of o.number act o.reply o.count
 abbrev pub act_answer : Act → ℕ → Setup → LineAnswer
 act_answer act arg s = pick (no_part s) (misplaced s) (outcome_answer s.part act (performed s.part act arg s.chip))
 
-abbrev pub request_answer : Request → Setup → LineAnswer
-request_answer (PartLine arg) s = part_answer arg s
-request_answer (ActLine act arg) s = act_answer act arg s
-request_answer (Bad number column) s = faulty_line number column s
+abbrev pub request_answer : Result Request Fault → Setup → LineAnswer
+request_answer (Ok (PartLine arg)) s = part_answer arg s
+request_answer (Ok (ActLine act arg)) s = act_answer act arg s
+request_answer (Err fault) s = faulty_line (fault_number fault) (fault_column fault) s
 
 unfoldable pub line_answer : List ℕ → Setup → LineAnswer
 line_answer line s = request_answer (request_of line) s
@@ -79,16 +78,16 @@ line_answer line s = request_answer (request_of line) s
 -- bits, else z; said apart from the choices above.
 unfoldable pub RepliesShown : Type 0
 RepliesShown =
-    (line : List ℕ) (act : Act) (arg : ℕ) (s : Setup) → request_of line ≡ ActLine act arg → no_part s ≡ false → act ≢ Wait → act ≢ Cut
-    → ((n : ℕ) → (performed s.part act arg s.chip).reply ≡ Some n → (line_answer line s).out ≡ Value n)
-    × ((performed s.part act arg s.chip).reply ≡ None → (line_answer line s).out ≡ Z)
+    (line : List ℕ) (act : Act) (arg : ℕ) (s : Setup) → request_of line ≡ Ok (ActLine act arg) → no_part s ≡ false → act ≢ Wait → act ≢ Cut
+    → ((n : ℕ) → (performed s.part act arg s.chip).reply ≡ Some n → (line_answer line s).out ≡ Some n)
+    × ((performed s.part act arg s.chip).reply ≡ None → (line_answer line s).out ≡ None)
 
 -- T9. A level is high without a part, and where the chip does not hold it low.
 abbrev pub level_high : ℕ → Bool → Bool
 level_high part low = eqb part 0 || not low
 
 -- an answer's line, with the levels of a part and a record
-abbrev pub line_of : ℕ → Out → ℕ → Device → List ℕ
+abbrev pub line_of : ℕ → Option ℕ → ℕ → Device → List ℕ
 line_of number out part d = answer_line number out (level_high part (irq_low d)) (level_high part (wdo_low d))
 
 -- T8. The text of an answer, with the levels after it.
@@ -147,5 +146,5 @@ abbrev pub shown_by : Progress → List ℕ → List ℕ → List ℕ → Shown
 shown_by r ee id bytes = record { after = held_by r ee id; written = buffer bytes r.at }
 
 -- an answer's line put into a buffer, with the levels of what is held
-abbrev pub line_in : Held → Buffer → ℕ → Out → Shown
+abbrev pub line_in : Held → Buffer → ℕ → Option ℕ → Shown
 line_in h o number out = record { after = h; written = append o (line_of number out h.part h.device) }

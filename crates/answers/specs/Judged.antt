@@ -1,19 +1,19 @@
 -- When a line of a tape is bad, with which number and at which column, said apart from the choices that decide (Answer): by the rows of a line by itself, and
 -- the row of the part behind them. And the one number of before, 7, in the words that it had, with what a line was answered then.
 -- Assumes nothing.
-use Rattle.std.specs.Prelude.{ℕ, ◌<◌, ◌≡◌, true, false, List, [], ◌∷◌, ◌++◌, ◌⊎◌, ◌↔◌, ltb}
+use Rattle.std.specs.Prelude.{ℕ, ◌<◌, ◌≡◌, true, false, List, [], ◌∷◌, ◌++◌, ◌⊎◌, ◌↔◌, ltb, None, Result, Ok, Err}
 use Rattle.base.specs.Words.{pick}
 use Rattle.record.specs.declared.Act.{Act}
 use Rattle.record.specs.Part.{is_part}
 use Rattle.acts.specs.Act.{performed}
 use Rattle.text.specs.Bytes.{Listed}
 use Rattle.text.specs.Decimal.{value_of}
-use Rattle.lines.specs.declared.Name.TheVariants.{PartName, ActName}
+use Rattle.lines.specs.declared.Name.TheVariants.{Part as PartName, Act as ActName}
+use Rattle.lines.specs.declared.Fault.{Fault}
 use Rattle.lines.specs.declared.Request.{Request}
-use Rattle.lines.specs.declared.Request.TheVariants.{PartLine, ActLine, Bad}
-use Rattle.lines.specs.declared.Out.TheVariants.{Z}
+use Rattle.lines.specs.declared.Request.TheVariants.{Part as PartLine, Act as ActLine}
 use Rattle.lines.specs.Line.{names, name_of, name_text, digits_text}
-use Rattle.lines.specs.Request.{asked, bad_line, request_of}
+use Rattle.lines.specs.Request.{asked_by, bad_line, request_of}
 use Rattle.lines.specs.Faults.{Formed, LineRow, line_rows, FirstRow, NoRow}
 use Rattle.answers.specs.Answer.{Setup, no_part, fresh_setup, LineAnswer, answer, refused_line, faulty_line, outcome_answer, line_answer}
 
@@ -34,18 +34,18 @@ pub data SevenRow (line : List ℕ) (s : Setup) : Type 0 where
   -- the line is bad by itself
   bad : bad_line line ≡ true → SevenRow line s
   -- T6. It names an act, and there is no part yet.
-  early : (act : Act) (arg : ℕ) → request_of line ≡ ActLine act arg → no_part s ≡ true → SevenRow line s
+  early : (act : Act) (arg : ℕ) → request_of line ≡ Ok (ActLine act arg) → no_part s ≡ true → SevenRow line s
   -- T6. It names a part, and there is one.
-  again : (arg : ℕ) → request_of line ≡ PartLine arg → no_part s ≡ false → SevenRow line s
+  again : (arg : ℕ) → request_of line ≡ Ok (PartLine arg) → no_part s ≡ false → SevenRow line s
 
 -- T17. What a line was answered before the five numbers.
-abbrev pub request_before : Request → Setup → LineAnswer
-request_before (PartLine arg) s = pick (no_part s) (pick (is_part arg) (answer 0 Z (fresh_setup arg)) (refused_line 3 s)) (refused_line 7 s)
-request_before (ActLine act arg) s = pick (no_part s) (refused_line 7 s) (outcome_answer s.part act (performed s.part act arg s.chip))
-request_before (Bad number column) s = refused_line 7 s
+abbrev pub request_before : Result Request Fault → Setup → LineAnswer
+request_before (Ok (PartLine arg)) s = pick (no_part s) (pick (is_part arg) (answer 0 None (fresh_setup arg)) (refused_line 3 s)) (refused_line 7 s)
+request_before (Ok (ActLine act arg)) s = pick (no_part s) (refused_line 7 s) (outcome_answer s.part act (performed s.part act arg s.chip))
+request_before (Err fault) s = refused_line 7 s
 
 unfoldable pub answer_before : List ℕ → Setup → LineAnswer
-answer_before line s = pick (bad_line line) (refused_line 7 s) (request_before (asked (name_of (name_text line)) (value_of (digits_text line))) s)
+answer_before line s = pick (bad_line line) (refused_line 7 s) (request_before (asked_by (name_of (name_text line)) (value_of (digits_text line))) s)
 
 -- an answer with the five put together again
 abbrev pub together : LineAnswer → LineAnswer

@@ -6,7 +6,7 @@ ghost use Rattle.text.specs.Buffer.{buffer};
 ghost use Rattle.lines.specs.Print.{answer_room};
 ghost use Rattle.answers.specs.Answer.{level_high, answer, part_answer, act_answer, line_answer, Lent, ready, setup_in, held_by, shown_in, shown_by, line_in};
 
-use lines::{Out, Request};
+use lines::Request;
 use record::{Act, Device};
 
 // How far a tape has come between two lines: its part, 0 while none is accepted, the chip's record, and the place in the output.
@@ -34,7 +34,7 @@ pub fn is_ready(part: u64, d: Device) -> bool
 }
 
 // Puts an answer's line with the levels of a part and a record, whatever the memories hold.
-fn told(number: u8, out: Out, part: u64, d: Device, into: &mut [u8], at: usize) -> Progress
+fn told(number: u8, out: Option<u64>, part: u64, d: Device, into: &mut [u8], at: usize) -> Progress
     requires { at + answer_room ≤ length into.old }
     ensures { (ee id : List ℕ) → shown_by result ee id into.new
         ≡ line_in (record { part = part; device = d; eeprom = ee; id = id }) (buffer into.old at) number out }
@@ -50,7 +50,7 @@ fn told(number: u8, out: Out, part: u64, d: Device, into: &mut [u8], at: usize) 
 }
 
 // A34. A line that is refused, with its column or none, whatever the memories hold.
-fn refused_line(number: u8, out: Out, p: Progress, into: &mut [u8]) -> Progress
+fn refused_line(number: u8, out: Option<u64>, p: Progress, into: &mut [u8]) -> Progress
     requires { p.at + answer_room ≤ length into.old }
     ensures { (ee id : List ℕ) → shown_by result ee id into.new
         ≡ shown_in (held_by p ee id) (buffer into.old p.at) (answer number out (setup_in (held_by p ee id))) }
@@ -69,16 +69,16 @@ fn part_line(arg: u64, p: Progress, eeprom: &mut [u8], id: &mut [u8], into: &mut
 {
     let none = p.part == 0;
     if !none {
-        return refused_line(74, Out::Value(0), p, into);
+        return refused_line(74, Some(0), p, into);
     }
     let is_part = record::part::is_part(arg);
     if !is_part {
-        return refused_line(3, Out::Z, p, into);
+        return refused_line(3, None, p, into);
     }
     let size = record::part::size(arg) as usize;
     acts::page::erase(&mut eeprom[..size]);
     acts::page::erase(id);
-    told(0, Out::Z, arg, record::fresh_device(), into, p.at)
+    told(0, None, arg, record::fresh_device(), into, p.at)
 }
 
 // T6. A line of an act.
@@ -99,7 +99,7 @@ fn act_line(
 {
     let none = p.part == 0;
     if none {
-        return refused_line(74, Out::Value(0), p, into);
+        return refused_line(74, Some(0), p, into);
     }
     let size = record::part::size(p.part) as usize;
     let d = p.device;
@@ -125,10 +125,9 @@ pub fn answer_line(
         ≡ shown_in (held_by p eeprom.old id.old) (buffer into.old p.at)
         (line_answer line.now (setup_in (held_by p eeprom.old id.old))) }
 {
-    let r = codec::line::request(line);
-    match r {
-        Request::PartLine(arg) => part_line(arg, p, eeprom, id, into),
-        Request::ActLine(act, arg) => act_line(act, arg, p, eeprom, id, into),
-        Request::Bad(number, column) => refused_line(number, Out::Value(column), p, into),
+    match codec::line::request(line) {
+        Ok(Request::Part(arg)) => part_line(arg, p, eeprom, id, into),
+        Ok(Request::Act(act, arg)) => act_line(act, arg, p, eeprom, id, into),
+        Err(fault) => refused_line(fault.number(), Some(fault.column()), p, into),
     }
 }

@@ -2,7 +2,7 @@
 -- function's contract as the checker states it; nothing of the chip is defined here. 'Proved' means: equal to the outline's rules as the requests amend
 -- them, and as docs/RULES.md tells them; not: equal to silicon.
 -- Assumes nothing.
-use Rattle.std.specs.Prelude.{ℕ, ◌≡◌, false, List, ◌↔◌, ◌≢◌, length}
+use Rattle.std.specs.Prelude.{ℕ, ◌≡◌, List, ◌↔◌, ◌≢◌, length, Ok}
 use Rattle.record.specs.declared.Act.{Act}
 use Rattle.record.specs.World.{World}
 use Rattle.refusals.specs.Rows.{TableGives}
@@ -15,7 +15,7 @@ use Rattle.run.specs.Leftover.{LeftoverBits}
 use Rattle.run.specs.Stamps.{TimeStamps}
 use Rattle.run.specs.Wrong.{WrongChipsFail}
 use Rattle.lines.specs.declared.Name.{Name}
-use Rattle.lines.specs.Request.{request_of, asked, unknown_name, Spelled}
+use Rattle.lines.specs.Request.{request_of, asked, Spelled}
 use Rattle.answers.specs.Answer.{Setup, line_answer, RepliesShown}
 use Rattle.answers.specs.Judged.{LinesJudged}
 use Rattle.feeding.specs.Begin.{ResumesWith, ChipAnswers, CutInTwo, TapeRuns}
@@ -53,7 +53,7 @@ pub record Total : Type 0 where
       (part : ℕ) (act : Act) (arg : ℕ) (w : World) → (performed part act arg w).number ≢ 0
       → performed part act arg w ≡ refused (performed part act arg w).number w
   -- a tape's line asks for a part or an act exactly if it is its text: `op=`, the name, ` arg=` and the number, of at most 8 digits
-  pub asks : (line : List ℕ) (x : Name) (arg : ℕ) → unknown_name x ≡ false → (request_of line ≡ asked x arg) ↔ Spelled line x arg
+  pub asks : (line : List ℕ) (x : Name) (arg : ℕ) → (request_of line ≡ Ok (asked x arg)) ↔ Spelled line x arg
   -- a line is answered 71 to 75, and with which column, exactly by the first row that holds, in the order 71, 72, 73, 75, 74; it is good exactly if none holds;
   -- together the five are the one number of before, and nothing else of an answer changed
   pub judged : LinesJudged

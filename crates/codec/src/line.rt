@@ -3,9 +3,9 @@ ghost use Rattle.std.specs.Prelude.{◌≡◌, ◌≤◌, length};
 ghost use Rattle.base.specs.Words.{pick};
 ghost use Rattle.text.specs.Bytes.{is_word};
 ghost use Rattle.lines.specs.Line.{line_limit, name_size, name_text, after_name, digits_text, in_form, form_reach, name_of, bad_digits, number_column};
-ghost use Rattle.lines.specs.Request.{asked, unknown_name, request_of};
+ghost use Rattle.lines.specs.Request.{asked, request_of};
 
-use lines::{Name, Request};
+use lines::{Fault, Name, Request};
 use record::{Act, Pin};
 use text::{Kind, bytes, decimal};
 
@@ -77,48 +77,37 @@ fn form_reach(line: &[u8], size: usize) -> usize
 }
 
 // The name where s is its word, else the other.
-fn choose(word: &[u8], s: &[u8], name: Name, other: Name) -> Name
-    ensures { result ≡ pick (is_word word.now s.now) name other }
+fn choose(word: &[u8], s: &[u8], name: Name, other: Option<Name>) -> Option<Name>
+    ensures { result ≡ pick (is_word word.now s.now) (Some name) other }
 {
     if bytes::is_word(word, s) {
-        return name;
+        return Some(name);
     }
     other
 }
 
 // T4. The name that a text is, chosen from the last word to the first.
-fn name_of(s: &[u8]) -> Name
+fn name_of(s: &[u8]) -> Option<Name>
     ensures { result ≡ name_of s.now }
 {
-    let mut name = Name::Unknown;
-    name = choose(b"evhs", s, Name::ActName(Act::Set(Pin::Evhs)), name);
-    name = choose(b"evls", s, Name::ActName(Act::Set(Pin::Evls)), name);
-    name = choose(b"up", s, Name::ActName(Act::Up), name);
-    name = choose(b"cut", s, Name::ActName(Act::Cut), name);
-    name = choose(b"wait", s, Name::ActName(Act::Wait), name);
-    name = choose(b"end", s, Name::ActName(Act::End), name);
-    name = choose(b"byte", s, Name::ActName(Act::Byte), name);
-    name = choose(b"select", s, Name::ActName(Act::Select), name);
-    choose(b"part", s, Name::PartName, name)
-}
-
-fn unknown_name(name: Name) -> bool
-    ensures { result ≡ unknown_name name }
-{
-    match name {
-        Name::PartName => false,
-        Name::ActName(_) => false,
-        Name::Unknown => true,
-    }
+    let mut name = None;
+    name = choose(b"evhs", s, Name::Act(Act::Set(Pin::Evhs)), name);
+    name = choose(b"evls", s, Name::Act(Act::Set(Pin::Evls)), name);
+    name = choose(b"up", s, Name::Act(Act::Up), name);
+    name = choose(b"cut", s, Name::Act(Act::Cut), name);
+    name = choose(b"wait", s, Name::Act(Act::Wait), name);
+    name = choose(b"end", s, Name::Act(Act::End), name);
+    name = choose(b"byte", s, Name::Act(Act::Byte), name);
+    name = choose(b"select", s, Name::Act(Act::Select), name);
+    choose(b"part", s, Name::Part, name)
 }
 
 fn asked_for(name: Name, arg: u64) -> Request
     ensures { result ≡ asked name arg }
 {
     match name {
-        Name::PartName => Request::PartLine(arg),
-        Name::ActName(act) => Request::ActLine(act, arg),
-        Name::Unknown => Request::Bad(73, 4),
+        Name::Part => Request::Part(arg),
+        Name::Act(act) => Request::Act(act, arg),
     }
 }
 
@@ -143,24 +132,23 @@ fn number_column(line: &[u8], size: usize) -> usize
 }
 
 // T16. What a line asks for: the first of its faults, else what its name and its number are.
-pub fn request(line: &[u8]) -> Request
+pub fn request(line: &[u8]) -> Result<Request, Fault>
     ensures { result ≡ request_of line.now }
 {
     if LINE_LIMIT < line.len() {
-        return Request::Bad(71, 65);
+        return Err(Fault::TooLong);
     }
     let size = name_size(line);
     let formed = in_form(line, size);
     if !formed {
-        return Request::Bad(72, (form_reach(line, size) + 1) as u64);
+        return Err(Fault::NotInForm((form_reach(line, size) + 1) as u64));
     }
-    let name = name_of(name_text(line, size));
-    if unknown_name(name) {
-        return Request::Bad(73, 4);
-    }
+    let Some(name) = name_of(name_text(line, size)) else {
+        return Err(Fault::UnknownName);
+    };
     let text = digits(line, size);
     if bad_digits(text) {
-        return Request::Bad(75, number_column(line, size) as u64);
+        return Err(Fault::BadDigits(number_column(line, size) as u64));
     }
-    asked_for(name, decimal::value_of(text))
+    Ok(asked_for(name, decimal::value_of(text)))
 }

@@ -3,7 +3,6 @@ ghost use Rattle.std.specs.Prelude.{◌≡◌, ◌++◌, ◌+◌, ◌≤◌, len
 ghost use Rattle.text.specs.Buffer.{buffer, append};
 ghost use Rattle.lines.specs.Print.{shows_count, out_of, out_text, level_out, answer_line, out_room, answer_room};
 
-use lines::Out;
 use record::Act;
 use text::{buffer, decimal};
 
@@ -26,50 +25,57 @@ fn shows_count(act: Act) -> bool
 }
 
 // T8, G2. What the answer to an act shows: none where it is refused, its count, or its reply.
-pub fn out_of(number: u8, act: Act, reply: Option<u8>, count: u64) -> Out
+pub fn out_of(number: u8, act: Act, reply: Option<u8>, count: u64) -> Option<u64>
     ensures { result ≡ out_of number act reply count }
 {
     let done = number == 0;
     if !done {
-        return Out::Z;
+        return None;
     }
     if shows_count(act) {
-        return Out::Value(count);
+        return Some(count);
     }
     let Some(b) = reply else {
-        return Out::Z;
+        return None;
     };
-    Out::Value(b as u64)
+    Some(b as u64)
 }
 
-fn level(high: bool) -> Out
+fn level(high: bool) -> Option<u64>
     ensures { result ≡ level_out high }
 {
     if high {
-        return Out::Value(1);
+        return Some(1);
     }
-    Out::Value(0)
+    Some(0)
 }
 
 // Puts a word and what it shows.
-fn put_field(word: &[u8], out: Out, into: &mut [u8], at: usize) -> usize
+fn put_field(word: &[u8], out: Option<u64>, into: &mut [u8], at: usize) -> usize
     requires { at + length word.now + out_room ≤ length into.old }
     ensures { (buffer into.new result ≡ append (buffer into.old at) (word.now ++ out_text out))
         × (result ≤ at + length word.now + out_room) }
 {
     let a = buffer::put(word, into, at);
-    let Out::Value(n) = out else {
+    let Some(n) = out else {
         return buffer::put_byte(b'z', into, a);
     };
     decimal::put_decimal(n, into, a)
 }
 
 // T8. Puts an answer's line at a place, and answers the place after it. The levels are high or not.
-pub fn put_answer(number: u8, out: Out, irq: bool, wdo: bool, into: &mut [u8], at: usize) -> usize
+pub fn put_answer(
+    number: u8,
+    out: Option<u64>,
+    irq: bool,
+    wdo: bool,
+    into: &mut [u8],
+    at: usize,
+) -> usize
     requires { at + answer_room ≤ length into.old }
     ensures { buffer into.new result ≡ append (buffer into.old at) (answer_line number out irq wdo) }
 {
-    let a = put_field(b"no=", Out::Value(number as u64), into, at);
+    let a = put_field(b"no=", Some(number as u64), into, at);
     let b = put_field(b" out=", out, into, a);
     let c = put_field(b" irq=", level(irq), into, b);
     let d = put_field(b" wdo=", level(wdo), into, c);

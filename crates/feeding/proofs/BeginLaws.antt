@@ -7,6 +7,7 @@ use mathlib.Core.List.{List, [], ◌∷◌, ◌++◌, append_assoc}
 use mathlib.Core.Logic.{inl, inr}
 use Prim.Native.Nat.{ℕ}
 use lib.Dec.{eqb}
+use Rattle.std.specs.Prelude.{Result}
 use Rattle.base.proofs.Tests.{no}
 use Rattle.record.specs.Part.{is_part, size_of, id_size}
 use Rattle.record.specs.World.{World, Shaped}
@@ -16,6 +17,7 @@ use Rattle.refusals.proofs.TableLaws.{setup_passed}
 use Rattle.ledger.specs.State.{Step}
 use Rattle.run.specs.Claim.{Input, our_chip, world_after, steps_of}
 use Rattle.text.specs.Bytes.{newline}
+use Rattle.lines.specs.declared.Fault.{Fault}
 use Rattle.lines.specs.declared.Request.{Request}
 use Rattle.answers.specs.Answer.{Setup, no_part, misplaced, request_answer, line_answer, answer_text}
 use Rattle.answers.proofs.AnswerLaws.{ready_suits}
@@ -73,9 +75,9 @@ pub chip_answers : ChipAnswers
 unfolding ChipAnswers line_answer
 chip_answers s f line =
     record {
-      part_line = λ arg e. ap (λ (r : Request). request_answer r s) e ∙ sym (no _ (misplaced s) f);
-      act_line = λ act arg e. ap (λ (r : Request). request_answer r s) e ∙ sym (no (misplaced s) _ f);
-      bad_line_lem = λ number column e. ap (λ (r : Request). request_answer r s) e;
+      part_line = λ arg e. ap (λ (r : Result Request Fault). request_answer r s) e ∙ sym (no _ (misplaced s) f);
+      act_line = λ act arg e. ap (λ (r : Result Request Fault). request_answer r s) e ∙ sym (no (misplaced s) _ f);
+      bad_line_lem = λ fault e. ap (λ (r : Result Request Fault). request_answer r s) e;
     }
 
 pub tape_runs : TapeRuns

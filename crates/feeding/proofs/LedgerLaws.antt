@@ -6,6 +6,7 @@ use mathlib.Core.Bool.{true, false, true≢false}
 use mathlib.Core.List.{List, [], ◌∷◌, ◌++◌, append-nil}
 use Prim.Native.Nat.{ℕ}
 use lib.Dec.{eqb}
+use Rattle.std.specs.Prelude.{Option, Some, None, Result, Ok, Err}
 use Rattle.base.proofs.Tests.{by_cases, yes, no, pick_when}
 use Rattle.record.specs.declared.Act.{Act}
 use Rattle.record.specs.declared.Act.TheVariants.{Select, Byte, End, Wait, Cut, Up, Set}
@@ -18,11 +19,10 @@ use Rattle.ledger.specs.State.{Step}
 use Rattle.run.specs.Claim.{Input, our_chip, world_after, steps_of, told, used_by, DemandThree}
 use Rattle.run.proofs.DemandThree.{demand_three_lem}
 use Rattle.run.proofs.RunLaws.{after_append, steps_append}
+use Rattle.lines.specs.declared.Fault.{Fault}
 use Rattle.lines.specs.declared.Request.{Request}
-use Rattle.lines.specs.declared.Request.TheVariants.{PartLine, ActLine, Bad}
+use Rattle.lines.specs.declared.Request.TheVariants.{Part as PartLine, Act as ActLine}
 use Rattle.lines.specs.Request.{request_of}
-use Rattle.lines.specs.declared.Out.{Out}
-use Rattle.lines.specs.declared.Out.TheVariants.{Value, Z}
 use Rattle.lines.specs.Print.{out_of}
 use Rattle.lines.specs.Read.{shown_or}
 use Rattle.answers.specs.Answer.{Setup, setup, LineAnswer, misplaced, outcome_answer, fresh_setup, request_answer, line_answer}
@@ -33,10 +33,10 @@ use Rattle.feeding.proofs.WholeLaws.{setup_lines, before_any}
 use Rattle.feeding.proofs.ToldLaws.{chars_of, chars_out, answer_lines, answers_cut}
 
 -- the acts that lines name
-abbrev pub input_of : Request → List Input
-input_of (PartLine arg) = []
-input_of (ActLine act arg) = record { act = act; arg = arg } ∷ []
-input_of (Bad number column) = []
+abbrev pub input_of : Result Request Fault → List Input
+input_of (Ok (PartLine arg)) = []
+input_of (Ok (ActLine act arg)) = record { act = act; arg = arg } ∷ []
+input_of (Err fault) = []
 
 unfoldable pub acts_of : List (List ℕ) → List Input
 acts_of [] = []
@@ -46,8 +46,8 @@ acts_of (line ∷ lines) = input_of (request_of line) ++ acts_of lines
 wait_ticks : (o : Outcome) → (eqb o.number 0 ≡ false → o.count ≡ 0) → shown_or 0 (out_of o.number Wait o.reply o.count) ≡ o.count
 wait_ticks o h =
     by_cases (eqb o.number 0)
-    (λ e. ap (shown_or 0) (sym (yes (Value o.count) Z e)))
-    (λ e. ap (shown_or 0) (sym (no (Value o.count) Z e)) ∙ sym (h e))
+    (λ e. ap (shown_or 0) (sym (yes (Some o.count) None e)))
+    (λ e. ap (shown_or 0) (sym (no (Some o.count) None e)) ∙ sym (h e))
 
 printed :
     (part : ℕ) (act : Act) (arg : ℕ) (w : World)
@@ -62,23 +62,23 @@ printed part (Set p) arg w = refl
 
 -- with a part, a line's answer leaves and tells the ledger what its act does
 module _ (part : ℕ) (some : eqb part 0 ≡ false) where
-  line_setup : (r : Request) (w : World) → (request_answer r (setup part w)).after ≡ setup part (world_after our_chip part (input_of r) w)
+  line_setup : (r : Result Request Fault) (w : World) → (request_answer r (setup part w)).after ≡ setup part (world_after our_chip part (input_of r) w)
   unfolding world_after our_chip
-  line_setup (PartLine arg) w = ap (λ (a : LineAnswer). a.after) (sym (no _ (misplaced (setup part w)) some))
-  line_setup (ActLine act arg) w =
+  line_setup (Ok (PartLine arg)) w = ap (λ (a : LineAnswer). a.after) (sym (no _ (misplaced (setup part w)) some))
+  line_setup (Ok (ActLine act arg)) w =
       ap (λ (x : LineAnswer). x.after) (sym (no (misplaced (setup part w)) (outcome_answer part act (performed part act arg w)) some))
-  line_setup (Bad number column) w = refl
+  line_setup (Err fault) w = refl
 
-  line_steps : (r : Request) (w : World) → line_told r (chars_of (request_answer r (setup part w))) ≡ steps_of our_chip part (input_of r) w
+  line_steps : (r : Result Request Fault) (w : World) → line_told r (chars_of (request_answer r (setup part w))) ≡ steps_of our_chip part (input_of r) w
   unfolding steps_of our_chip
-  line_steps (PartLine arg) w = refl
-  line_steps (ActLine act arg) w =
+  line_steps (Ok (PartLine arg)) w = refl
+  line_steps (Ok (ActLine act arg)) w =
       let a = outcome_answer part act (performed part act arg w) in
-      ap (λ (x : LineAnswer). line_told (ActLine act arg) (chars_of x)) (sym (no (misplaced (setup part w)) a some))
-      ∙ ap (λ (o : Out). told act arg (used_by act (shown_or 0 o))) (chars_out a)
+      ap (λ (x : LineAnswer). line_told (Ok (ActLine act arg)) (chars_of x)) (sym (no (misplaced (setup part w)) a some))
+      ∙ ap (λ (o : Option ℕ). told act arg (used_by act (shown_or 0 o))) (chars_out a)
       ∙ ap (told act arg) (printed part act arg w)
       ∙ sym (append-nil (told act arg (used_by act (performed part act arg w).count)))
-  line_steps (Bad number column) w = refl
+  line_steps (Err fault) w = refl
 
   -- and so do lines
   pub lines_setup : (lines : List (List ℕ)) (w : World) → setup_after (setup part w) lines ≡ setup part (world_after our_chip part (acts_of lines) w)
@@ -121,18 +121,18 @@ fresh_owes n p lines =
 abbrev Owed : List (List ℕ) → Setup → Type 0
 Owed lines s = AccountsFor (lines_told lines (answer_lines s lines)) (setup_after s lines)
 
-abbrev OwedAfter : Request → List (List ℕ) → LineAnswer → Type 0
+abbrev OwedAfter : Result Request Fault → List (List ℕ) → LineAnswer → Type 0
 OwedAfter r lines a =
     let answers : List (List ℕ) = answer_lines a.after lines in
     AccountsFor (part_told r (steps_told lines answers) (lines_told lines answers)) (setup_after a.after lines)
 
-line_owes : (r : Request) (lines : List (List ℕ)) (w : World) → Owed lines (setup 0 w) → OwedAfter r lines (request_answer r (setup 0 w))
-line_owes (PartLine n) lines w h =
-    pick_when (OwedAfter (PartLine n) lines) (is_part n)
+line_owes : (r : Result Request Fault) (lines : List (List ℕ)) (w : World) → Owed lines (setup 0 w) → OwedAfter r lines (request_answer r (setup 0 w))
+line_owes (Ok (PartLine n)) lines w h =
+    pick_when (OwedAfter (Ok (PartLine n)) lines) (is_part n)
     (λ p. subst (λ (t : Told). AccountsFor t (setup_after (fresh_setup n) lines)) (yes _ _ p) (fresh_owes n p lines))
     (λ p. subst (λ (t : Told). AccountsFor t (setup_after (setup 0 w) lines)) (no _ _ p) h)
-line_owes (ActLine act arg) lines w h = h
-line_owes (Bad number column) lines w h = h
+line_owes (Ok (ActLine act arg)) lines w h = h
+line_owes (Err fault) lines w h = h
 
 tape_owes : (lines : List (List ℕ)) (w : World) → Owed lines (setup 0 w)
 unfolding setup_after lines_told answer_lines line_answer

@@ -9,13 +9,15 @@ use native.Mathlib.Omega.{arith}
 use borrow.Author.Tests.{le-ltb, ne_eqb}
 use lib.Dec.{ltb, eqb}
 use lib.ListN.{length, length-append}
+use Rattle.std.specs.Prelude.{Result, Ok, Err}
 use Rattle.base.specs.Words.{pick}
 use Rattle.base.proofs.Tests.{no, pick_case}
 use Rattle.record.specs.Part.{is_part}
 use Rattle.record.specs.World.{World}
+use Rattle.lines.specs.declared.Fault.{Fault}
 use Rattle.lines.specs.declared.Request.{Request}
-use Rattle.lines.specs.declared.Request.TheVariants.{PartLine, ActLine, Bad}
-use Rattle.lines.specs.Request.{request_of}
+use Rattle.lines.specs.declared.Request.TheVariants.{Part as PartLine, Act as ActLine}
+use Rattle.lines.specs.Request.{request_of, fault_number, fault_column}
 use Rattle.text.specs.Bytes.{newline}
 use Rattle.lines.specs.Print.{answer_room}
 use Rattle.answers.specs.Answer.{Setup, setup, LineAnswer, refused_line, faulty_line, misplaced, request_answer, line_answer, answer_text}
@@ -67,15 +69,15 @@ setup_lines bytes s b = ap (λ (f : Fed). f.after.setup) (fed_lines bytes s b)
 
 -- before a part the chip tells nothing
 before_part :
-    (r : Request) (lines : List (List ℕ)) (v w : World) → answers_to (setup 0 v) lines ≡ answers_to (setup 0 w) lines
+    (r : Result Request Fault) (lines : List (List ℕ)) (v w : World) → answers_to (setup 0 v) lines ≡ answers_to (setup 0 w) lines
     → answer_text (request_answer r (setup 0 v)) ++ answers_to (request_answer r (setup 0 v)).after lines
     ≡ answer_text (request_answer r (setup 0 w)) ++ answers_to (request_answer r (setup 0 w)).after lines
 unfolding answer_text
-before_part (PartLine arg) lines v w e =
+before_part (Ok (PartLine arg)) lines v w e =
     let t : LineAnswer → List ℕ = λ a. answer_text a ++ answers_to a.after lines in
     pick_both (λ (x y : LineAnswer). t x ≡ t y) (is_part arg) refl (ap (λ (l : List ℕ). answer_text (refused_line 3 (setup 0 v)) ++ l) e)
-before_part (ActLine act arg) lines v w e = ap (λ (l : List ℕ). answer_text (misplaced (setup 0 v)) ++ l) e
-before_part (Bad number column) lines v w e = ap (λ (l : List ℕ). answer_text (faulty_line number column (setup 0 v)) ++ l) e
+before_part (Ok (ActLine act arg)) lines v w e = ap (λ (l : List ℕ). answer_text (misplaced (setup 0 v)) ++ l) e
+before_part (Err fault) lines v w e = ap (λ (l : List ℕ). answer_text (faulty_line (fault_number fault) (fault_column fault) (setup 0 v)) ++ l) e
 
 pub before_any : (lines : List (List ℕ)) (v w : World) → answers_to (setup 0 v) lines ≡ answers_to (setup 0 w) lines
 unfolding answers_to line_answer

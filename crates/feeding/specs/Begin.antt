@@ -1,7 +1,7 @@
 -- A tape that begins with a setup: without a part, as every tape did at first, or with a chip that is there. What its lines answer and leave; that a tape may be
 -- cut at any line and go on with what the first piece left; and that a tape that begins with a chip is a run of acts on it. Not where the chip came from.
 -- Assumes nothing.
-use Rattle.std.specs.Prelude.{ℕ, ◌≡◌, true, false, List, [], ◌∷◌, ◌++◌, ◌⊎◌, length, take}
+use Rattle.std.specs.Prelude.{ℕ, ◌≡◌, true, false, List, [], ◌∷◌, ◌++◌, ◌⊎◌, length, take, Ok, Err}
 use Rattle.record.specs.declared.Act.{Act}
 use Rattle.record.specs.declared.Device.{Device}
 use Rattle.record.specs.Part.{size_of, id_size}
@@ -9,8 +9,9 @@ use Rattle.record.specs.World.{world, Shaped}
 use Rattle.acts.specs.Act.{performed}
 use Rattle.run.specs.Claim.{Input, our_chip, world_after, steps_of}
 use Rattle.text.specs.Bytes.{newline}
-use Rattle.lines.specs.declared.Request.TheVariants.{PartLine, ActLine, Bad}
-use Rattle.lines.specs.Request.{request_of}
+use Rattle.lines.specs.declared.Fault.{Fault}
+use Rattle.lines.specs.declared.Request.TheVariants.{Part as PartLine, Act as ActLine}
+use Rattle.lines.specs.Request.{request_of, fault_number, fault_column}
 use Rattle.answers.specs.Answer.{Setup, setup, no_part, faulty_line, misplaced, outcome_answer, line_answer, eeprom_bytes, id_bytes, ready}
 use Rattle.tape.specs.Tape.{lines_from, answers_to, state, fed, Loan, loan, state_in, is_tape, resumes, resumed_tape, Typed}
 use Rattle.feeding.specs.Told.{steps_told}
@@ -46,10 +47,10 @@ ResumesWith =
 -- R21. On a chip that is there a line that names a part is out of its place, and a bad one is refused with its number and column; a line that names an act
 -- shows and leaves what that act does to the chip.
 pub record AnsweredByChip (s : Setup) (line : List ℕ) : Type 0 where
-  pub part_line : (arg : ℕ) → request_of line ≡ PartLine arg → line_answer line s ≡ misplaced s
+  pub part_line : (arg : ℕ) → request_of line ≡ Ok (PartLine arg) → line_answer line s ≡ misplaced s
   pub act_line :
-      (act : Act) (arg : ℕ) → request_of line ≡ ActLine act arg → line_answer line s ≡ outcome_answer s.part act (performed s.part act arg s.chip)
-  pub bad_line_lem : (number column : ℕ) → request_of line ≡ Bad number column → line_answer line s ≡ faulty_line number column s
+      (act : Act) (arg : ℕ) → request_of line ≡ Ok (ActLine act arg) → line_answer line s ≡ outcome_answer s.part act (performed s.part act arg s.chip)
+  pub bad_line_lem : (fault : Fault) → request_of line ≡ Err fault → line_answer line s ≡ faulty_line (fault_number fault) (fault_column fault) s
 
 unfoldable pub ChipAnswers : Type 0
 ChipAnswers = (s : Setup) → no_part s ≡ false → (line : List ℕ) → AnsweredByChip s line

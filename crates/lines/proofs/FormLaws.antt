@@ -15,7 +15,7 @@ use Rattle.base.proofs.Tests.{by_cases, pick_when, pick_case, yes}
 use Rattle.text.specs.Bytes.{agreed, begins, leading, letter, digit}
 use Rattle.text.proofs.BytesLaws.{leading_within, leading_taken, leading_first, leading_rest, leading_join, agreed_with}
 use Rattle.lines.specs.Line.{op_text, arg_text, past_word, past_some, form_reach}
-use Rattle.lines.specs.Faults.{Some, Formed, Longest}
+use Rattle.lines.specs.Faults.{Run, Formed, Longest}
 
 -- How far texts go along with those of a language: no further than they are; some text of the language begins with what went along; and every beginning of
 -- such a text goes along to its end, whatever follows it.
@@ -42,7 +42,7 @@ some_along kind [] r q e = omega arith
 some_along kind (b ∷ p) r q e =
     simp (leading_first kind b (p ++ r) e) (suc-le-suc (some_along kind p r q (leading_rest kind b (p ++ r) e)))
 
-some_reaches : (kind : ℕ → Bool) (b : ℕ) → kind b ≡ true → Reaches (Some kind) (leading kind)
+some_reaches : (kind : ℕ → Bool) (b : ℕ) → kind b ≡ true → Reaches (Run kind) (leading kind)
 unfolding leading
 some_reaches kind b t =
     record {
@@ -138,7 +138,7 @@ module _ {Has : List ℕ → Type 0} {reach : List ℕ → ℕ} (g : Reaches Has
 record AfterSome (kind : ℕ → Bool) (Has : List ℕ → Type 0) (s : List ℕ) : Type 0 where
   begun : List ℕ
   then : List ℕ
-  some : Some kind begun
+  some : Run kind begun
   text : s ≡ begun ++ then
   has : Has then
 
@@ -173,7 +173,7 @@ module _
         let y : kind b ≡ true = first_of h.begun h.then b (p ++ r) h.some h.text in
         omega (arith, k, yes (past (b ∷ (p ++ q))) 0 (lt-ltb 0 (leading kind (b ∷ (p ++ q))) (simp y (omega arith))))
       where
-        first_of : (a t : List ℕ) (c : ℕ) (s : List ℕ) → Some kind a → c ∷ s ≡ a ++ t → kind c ≡ true
+        first_of : (a t : List ℕ) (c : ℕ) (s : List ℕ) → Run kind a → c ∷ s ≡ a ++ t → kind c ≡ true
         first_of [] t c s o e = absurd (omega (arith, o.one))
         first_of (x ∷ a) t c s o e = ap kind (same_first e) ∙ leading_first kind x a o.each
 
@@ -213,7 +213,7 @@ module _
 
 -- The form of a line, piece by piece, and that its reach is its own.
 abbrev FromArg : List ℕ → Type 0
-FromArg = AfterWord arg_text (Some digit)
+FromArg = AfterWord arg_text (Run digit)
 
 abbrev FromName : List ℕ → Type 0
 FromName = AfterSome letter FromArg

@@ -12,54 +12,58 @@ use borrow.Author.Tests.{eq-eqb, ne_eqb, eqb-true, lt-ltb, le-ltb, ltb-true, ltb
 use lib.Dec.{eqb, ltb}
 use lib.ListN.{length, get_or, take, drop, take-append-drop, length-append, length-drop}
 use lib.Seq.{take_all, length-take-le, take-append_seam, drop-append_seam}
+use Rattle.std.specs.Prelude.{Option, Some, None, Result, Ok, Err}
 use Rattle.base.specs.Words.{pick}
 use Rattle.base.proofs.Tests.{by_cases, yes, no, pick_case, pick_when, both_left, both_right, both_true, either, neither_left, neither_right, neither}
 use Rattle.text.specs.Bytes.{agreed, begins, leading, letter, digit, Listed, all_rows, apart}
 use Rattle.text.specs.Decimal.{needless_zero, value_of, read_limit, decimal_text}
-use Rattle.text.proofs.BytesLaws.{leading_within, leading_taken, leading_append, agreed_with, agreed_itself, chosen_listed, rows_listed, listed_chosen}
+use Rattle.text.proofs.BytesLaws.{leading_within, leading_taken, leading_append, agreed_with, agreed_itself, found_listed, rows_listed, listed_found}
 use Rattle.text.proofs.DecimalLaws.{value_of_decimal, decimal_of_value, decimal_digits, decimal_some, decimal_needed}
 use Rattle.lines.specs.declared.Name.{Name}
-use Rattle.lines.specs.declared.Name.TheVariants.{PartName, ActName, Unknown}
+use Rattle.lines.specs.declared.Name.TheVariants.{Part as PartName, Act as ActName}
 use Rattle.lines.specs.declared.Request.{Request}
-use Rattle.lines.specs.declared.Request.TheVariants.{PartLine, ActLine, Bad}
-use Rattle.lines.specs.Line.{line_limit, long_column, form_column, name_column, digit_column, number_column, form_reach, too_long, op_text, arg_text, name_size, name_text, after_op, after_name, digits_text, in_form, names, name_of, digit_limit, too_many_digits, bad_digits}
-use Rattle.lines.specs.Request.{asked, unknown_name, is_bad, Fault, faults_of, first_fault, bad_line, request_of, Spelled}
-use Rattle.lines.specs.Faults.{Some, Formed, LongRow, FormRow, NameRow, DigitsRow, LineRow, line_rows, FirstRow, NoRow}
+use Rattle.lines.specs.declared.Fault.{Fault}
+use Rattle.lines.specs.declared.Fault.TheVariants.{TooLong, NotInForm, UnknownName, BadDigits}
+use Rattle.lines.specs.Line.{line_limit, form_column, digit_column, number_column, form_reach, too_long, op_text, arg_text, name_size, name_text, after_op, after_name, digits_text, in_form, names, name_of, digit_limit, too_many_digits, bad_digits}
+use Rattle.lines.specs.Request.{asked, asked_by, unknown_name, is_bad, fault_number, fault_column, Bad, faults_of, first_fault, bad_line, request_of, Spelled}
+use Rattle.lines.specs.Faults.{Run, Formed, LongRow, FormRow, NameRow, DigitsRow, LineRow, line_rows, FirstRow, NoRow}
 use Rattle.lines.proofs.FormLaws.{agreed_within, reach_longest, longest_once}
 
 -- each word finds its name, and no other text finds one
-pub name_back : (word : List ℕ) (x : Name) → Listed names word x → name_of word ≡ x
+pub name_back : (word : List ℕ) (x : Name) → Listed names word x → name_of word ≡ Some x
 unfolding name_of apart all_rows agreed
-name_back word x l = listed_chosen names Unknown word x refl l
+name_back word x l = listed_found names word x refl l
 
-pub name_only : (s : List ℕ) → unknown_name (name_of s) ≡ false → Listed names s (name_of s)
+pub name_only : (s : List ℕ) (x : Name) → name_of s ≡ Some x → Listed names s x
 unfolding name_of
-name_only s u = ⊎_elim (λ l. l) (λ e. absurd (true≢false (sym (ap unknown_name e) ∙ u))) (chosen_listed names Unknown s)
+name_only s x e = found_listed names s x e
 
--- a word is one to six small letters, and of a name
+-- a name that is known is one
+named : (x : Option Name) → unknown_name x ≡ false → (y : Name) × (x ≡ Some y)
+named None u = absurd (true≢false u)
+named (Some y) u = (y, refl)
+
+-- a word is one to six small letters
 unfoldable good_word : List ℕ → Name → Bool
-good_word word x = eqb (leading letter word) (length word) && ltb 0 (length word) && ltb (length word) 7 && not (unknown_name x)
+good_word word x = eqb (leading letter word) (length word) && ltb 0 (length word) && ltb (length word) 7
 
-record GoodWord (word : List ℕ) (x : Name) : Type 0 where
+record GoodWord (word : List ℕ) : Type 0 where
   letters : leading letter word ≡ length word
   some : 0 < length word
   few : length word < 7
-  known : unknown_name x ≡ false
 
-listed_good : (word : List ℕ) (x : Name) → Listed names word x → GoodWord word x
+listed_good : (word : List ℕ) (x : Name) → Listed names word x → GoodWord word
 unfolding good_word all_rows leading
 listed_good word x l =
     let t1 = eqb (leading letter word) (length word) in
     let t2 = ltb 0 (length word) in
     let t3 = ltb (length word) 7 in
-    let e : (t1 && t2 && t3 && not (unknown_name x)) ≡ true = rows_listed good_word names word x refl l in
-    let e3 : (t1 && t2 && t3) ≡ true = both_left (t1 && t2 && t3) (not (unknown_name x)) e in
+    let e3 : (t1 && t2 && t3) ≡ true = rows_listed good_word names word x refl l in
     let e2 : (t1 && t2) ≡ true = both_left (t1 && t2) t3 e3 in
     record {
       letters = eqb-true (leading letter word) (length word) (both_left t1 t2 e2);
       some = ltb-true 0 (length word) (both_right t1 t2 e2);
       few = ltb-true (length word) 7 (both_right (t1 && t2) t3 e3);
-      known = not-true (unknown_name x) (both_right (t1 && t2 && t3) (not (unknown_name x)) e);
     }
 
 -- the form, test by test
@@ -122,7 +126,7 @@ form_formed line f =
       text = form_pieces line f;
     }
 
-module _ (name number : List ℕ) (letters : Some letter name) where
+module _ (name number : List ℕ) (letters : Run letter name) where
   ending : List ℕ
   ending = arg_text ++ number
 
@@ -145,7 +149,7 @@ module _ (name number : List ℕ) (letters : Some letter name) where
   unfolding ending digits_text
   digits_text_lem = ap (drop (length arg_text)) after_name_lem
 
-  pieces_form : Some digit number → InForm whole_line
+  pieces_form : Run digit number → InForm whole_line
   unfolding whole_line ending
   pieces_form d =
       record {
@@ -183,86 +187,80 @@ pieces line f =
 
 -- The rows of a line beside the tests that decide them: a test that holds is its row at its column, a row that holds is its test's, and the rows behind it are
 -- so where the test failed.
-record SureRow (r : LineRow) (f : Fault) : Type 0 where
-  same : f.number ≡ r.number
-  held : f.holds ≡ true → r.holds f.column
-  only : (column : ℕ) → r.holds column → (f.holds ≡ true) × (column ≡ f.column)
+record SureRow (r : LineRow) (holds : Bool) (f : Fault) : Type 0 where
+  same : fault_number f ≡ r.number
+  held : holds ≡ true → r.holds (fault_column f)
+  only : (column : ℕ) → r.holds column → (holds ≡ true) × (column ≡ fault_column f)
 
-Sure : List LineRow → List Fault → Request → Type 0
+Sure : List LineRow → List (Bool × Fault) → Result Request Fault → Type 0
 Sure [] [] q = is_bad q ≡ false
 Sure [] (f ∷ fs) q = ⊥
 Sure (r ∷ rows) [] q = ⊥
-Sure (r ∷ rows) (f ∷ fs) q = SureRow r f × (f.holds ≡ false → Sure rows fs q)
+Sure (r ∷ rows) (f ∷ fs) q = SureRow r f.0 f.1 × (f.0 ≡ false → Sure rows fs q)
 
-not_bad : (q : Request) (number column : ℕ) → is_bad q ≡ false → q ≡ Bad number column → ⊥
-not_bad q number column b e = true≢false (sym (ap is_bad e) ∙ b)
-
-bad_number_lem : {m n c d : ℕ} → Bad m c ≡ Bad n d → m ≡ n
-bad_number_lem e = cc
-
-bad_column : {m n c d : ℕ} → Bad m c ≡ Bad n d → c ≡ d
-bad_column e = cc
+not_bad : (q : Result Request Fault) (number column : ℕ) → is_bad q ≡ false → Bad q number column → ⊥
+not_bad (Ok x) number column b e = e
+not_bad (Err f) number column b e = true≢false b
 
 -- the first fault is that of the first row
 first_told :
-    (rows : List LineRow) (fs : List Fault) (q : Request) (number column : ℕ) → Sure rows fs q
-    → first_fault fs q ≡ Bad number column → FirstRow rows number column
+    (rows : List LineRow) (fs : List (Bool × Fault)) (q : Result Request Fault) (number column : ℕ) → Sure rows fs q
+    → Bad (first_fault fs q) number column → FirstRow rows number column
 unfolding Sure FirstRow
 first_told [] [] q number column s e = not_bad q number column s e
 first_told [] (f ∷ fs) q number column s e = s
 first_told (r ∷ rows) [] q number column s e = absurd s
 first_told (r ∷ rows) (f ∷ fs) q number column s e =
-    by_cases f.holds
+    let P : Result Request Fault → Type 0 = λ x. Bad x number column in
+    by_cases f.0
     (λ t.
-    let b = yes (Bad f.number f.column) (first_fault fs q) t ∙ e in
-    inl (subst r.holds (bad_column b) (s.0.held t), sym (bad_number_lem b) ∙ s.0.same))
+    let b : Bad (Err f.1) number column = subst P (sym (yes (Err f.1) (first_fault fs q) t)) e in
+    inl (subst r.holds b.1 (s.0.held t), sym b.0 ∙ s.0.same))
     (λ n. inr (
       λ k h. absurd (true≢false (sym (s.0.only k h).0 ∙ n)),
-      first_told rows fs q number column (s.1 n) (no (Bad f.number f.column) (first_fault fs q) n ∙ e),
+      first_told rows fs q number column (s.1 n) (subst P (sym (no (Err f.1) (first_fault fs q) n)) e),
     ))
 
 first_given :
-    (rows : List LineRow) (fs : List Fault) (q : Request) (number column : ℕ) → Sure rows fs q
-    → FirstRow rows number column → first_fault fs q ≡ Bad number column
+    (rows : List LineRow) (fs : List (Bool × Fault)) (q : Result Request Fault) (number column : ℕ) → Sure rows fs q
+    → FirstRow rows number column → Bad (first_fault fs q) number column
 unfolding Sure FirstRow
 first_given [] fs q number column s h = absurd h
 first_given (r ∷ rows) [] q number column s h = absurd s
 first_given (r ∷ rows) (f ∷ fs) q number column s h =
-    let b : Request = Bad f.number f.column in
+    let P : Result Request Fault → Type 0 = λ x. Bad x number column in
     ⊎_elim
     (λ y.
     let o = s.0.only column y.0 in
-    sym (yes b (first_fault fs q) o.0) ∙ (λ i. Bad ((s.0.same ∙ sym y.1) i) (sym o.1 i)))
+    subst P (yes (Err f.1) (first_fault fs q) o.0) (s.0.same ∙ sym y.1, sym o.1))
     (λ n.
-    by_cases f.holds (λ t. absurd (n.0 f.column (s.0.held t)))
-    (λ x. sym (no b (first_fault fs q) x) ∙ first_given rows fs q number column (s.1 x) n.1))
+    by_cases f.0 (λ t. absurd (n.0 (fault_column f.1) (s.0.held t)))
+    (λ x. subst P (no (Err f.1) (first_fault fs q) x) (first_given rows fs q number column (s.1 x) n.1)))
     h
 
 -- and there is none where no row holds
-none_told : (rows : List LineRow) (fs : List Fault) (q : Request) → Sure rows fs q → is_bad (first_fault fs q) ≡ false → NoRow rows
+none_told : (rows : List LineRow) (fs : List (Bool × Fault)) (q : Result Request Fault) → Sure rows fs q → is_bad (first_fault fs q) ≡ false → NoRow rows
 unfolding Sure NoRow
 none_told [] fs q s e = tt
 none_told (r ∷ rows) [] q s e = absurd s
 none_told (r ∷ rows) (f ∷ fs) q s e =
-    let b : Request = Bad f.number f.column in
-    by_cases f.holds (λ t. absurd (true≢false (ap is_bad (yes b (first_fault fs q) t) ∙ e)))
+    by_cases f.0 (λ t. absurd (true≢false (ap is_bad (yes (Err f.1) (first_fault fs q) t) ∙ e)))
     (λ x. (
       λ k h. absurd (true≢false (sym (s.0.only k h).0 ∙ x)),
-      none_told rows fs q (s.1 x) (ap is_bad (no b (first_fault fs q) x) ∙ e),
+      none_told rows fs q (s.1 x) (ap is_bad (no (Err f.1) (first_fault fs q) x) ∙ e),
     ))
 
-none_given : (rows : List LineRow) (fs : List Fault) (q : Request) → Sure rows fs q → NoRow rows → is_bad (first_fault fs q) ≡ false
+none_given : (rows : List LineRow) (fs : List (Bool × Fault)) (q : Result Request Fault) → Sure rows fs q → NoRow rows → is_bad (first_fault fs q) ≡ false
 unfolding Sure NoRow
 none_given [] [] q s h = s
 none_given [] (f ∷ fs) q s h = absurd s
 none_given (r ∷ rows) [] q s h = absurd s
 none_given (r ∷ rows) (f ∷ fs) q s h =
-    let b : Request = Bad f.number f.column in
-    by_cases f.holds (λ t. absurd (h.0 f.column (s.0.held t)))
-    (λ x. sym (ap is_bad (no b (first_fault fs q) x)) ∙ none_given rows fs q (s.1 x) h.1)
+    by_cases f.0 (λ t. absurd (h.0 (fault_column f.1) (s.0.held t)))
+    (λ x. sym (ap is_bad (no (Err f.1) (first_fault fs q) x)) ∙ none_given rows fs q (s.1 x) h.1)
 
 -- Each row of a line is its test's. Those behind the form are so of a line that is of it.
-long_sure : (line : List ℕ) → SureRow (record { number = 71; holds = LongRow line }) (record { number = 71; holds = too_long line; column = long_column })
+long_sure : (line : List ℕ) → SureRow (record { number = 71; holds = LongRow line }) (too_long line) TooLong
 long_sure line =
     record {
       same = refl;
@@ -270,7 +268,7 @@ long_sure line =
       only = λ column h. (lt-ltb line_limit (length line) h.long, h.at);
     }
 
-form_sure : (line : List ℕ) → SureRow (record { number = 72; holds = FormRow line }) (record { number = 72; holds = not (in_form line); column = form_column line })
+form_sure : (line : List ℕ) → SureRow (record { number = 72; holds = FormRow line }) (not (in_form line)) (NotInForm (form_column line))
 form_sure line =
     record {
       same = refl;
@@ -288,19 +286,21 @@ form_sure line =
 
 name_sure :
     (line : List ℕ) → InForm line
-    → SureRow (record { number = 73; holds = NameRow line }) (record { number = 73; holds = unknown_name (name_of (name_text line)); column = name_column })
+    → SureRow (record { number = 73; holds = NameRow line }) (unknown_name (name_of (name_text line))) UnknownName
 unfolding name_size form_formed
 name_sure line f =
     record {
       same = refl;
       held = λ t. record {
         form = form_formed line f;
-        unknown = λ x l. true≢false (sym t ∙ ap unknown_name (name_back (name_text line) x l) ∙ (listed_good (name_text line) x l).known);
+        unknown = λ x l. true≢false (sym t ∙ ap unknown_name (name_back (name_text line) x l));
         at = refl;
       };
       only = λ column h. (
         by_cases (unknown_name (name_of (name_text line))) (λ t. t)
-            (λ n. absurd (h.unknown _ (subst (λ (word : List ℕ). Listed names word (name_of (name_text line))) (pieces line h.form).name_is (name_only (name_text line) n)))),
+            (λ n.
+            let k = named (name_of (name_text line)) n in
+            absurd (h.unknown k.0 (subst (λ (word : List ℕ). Listed names word k.0) (pieces line h.form).name_is (name_only (name_text line) k.0 k.1)))),
         h.at,
       );
     }
@@ -314,7 +314,7 @@ digits_stand line f =
 
 digits_sure :
     (line : List ℕ) → InForm line
-    → SureRow (record { number = 75; holds = DigitsRow line }) (record { number = 75; holds = bad_digits (digits_text line); column = number_column line })
+    → SureRow (record { number = 75; holds = DigitsRow line }) (bad_digits (digits_text line)) (BadDigits (number_column line))
 unfolding number_column name_size form_formed
 digits_sure line f =
     let s = digits_text line in
@@ -349,12 +349,11 @@ digits_sure line f =
           h.bad;
     }
 
-known_asks : (x : Name) (arg : ℕ) → unknown_name x ≡ false → is_bad (asked x arg) ≡ false
-known_asks PartName arg u = refl
-known_asks (ActName act) arg u = refl
-known_asks Unknown arg u = u
+known_asks : (x : Option Name) (arg : ℕ) → unknown_name x ≡ false → is_bad (asked_by x arg) ≡ false
+known_asks None arg u = u
+known_asks (Some x) arg u = refl
 
-line_sure : (line : List ℕ) → Sure (line_rows line) (faults_of line) (asked (name_of (name_text line)) (value_of (digits_text line)))
+line_sure : (line : List ℕ) → Sure (line_rows line) (faults_of line) (asked_by (name_of (name_text line)) (value_of (digits_text line)))
 unfolding Sure
 line_sure line = (
   long_sure line,
@@ -367,7 +366,7 @@ line_sure line = (
 )
 
 -- T16. a line is bad with this number, at this column, exactly by the first of its rows; and it asks for something exactly where none holds
-pub fault_exactly : (line : List ℕ) (number column : ℕ) → (request_of line ≡ Bad number column) ↔ FirstRow (line_rows line) number column
+pub fault_exactly : (line : List ℕ) (number column : ℕ) → Bad (request_of line) number column ↔ FirstRow (line_rows line) number column
 unfolding request_of
 fault_exactly line number column = (
   first_told (line_rows line) (faults_of line) _ number column (line_sure line),
@@ -379,45 +378,43 @@ unfolding request_of
 no_fault line = (none_told (line_rows line) (faults_of line) _ (line_sure line), none_given (line_rows line) (faults_of line) _ (line_sure line))
 
 -- T17. it is bad exactly as it was
-any_fault : (s t d : Bool) (x : Name) (number column arg : ℕ)
-    → is_bad (pick s (Bad 71 long_column) (pick t (Bad 72 number) (pick (unknown_name x) (Bad 73 name_column) (pick d (Bad 75 column) (asked x arg)))))
+any_fault : (s t d : Bool) (x : Option Name) (form digits arg : ℕ)
+    → is_bad (pick s (Err TooLong) (pick t (Err (NotInForm form)) (pick (unknown_name x) (Err UnknownName) (pick d (Err (BadDigits digits)) (asked_by x arg)))))
     ≡ (s || t || unknown_name x || d)
-any_fault true t d x number column arg = refl
-any_fault false true d x number column arg = refl
-any_fault false false d Unknown number column arg = refl
-any_fault false false true PartName number column arg = refl
-any_fault false false true (ActName act) number column arg = refl
-any_fault false false false PartName number column arg = refl
-any_fault false false false (ActName act) number column arg = refl
+any_fault true t d x form digits arg = refl
+any_fault false true d x form digits arg = refl
+any_fault false false d None form digits arg = refl
+any_fault false false true (Some x) form digits arg = refl
+any_fault false false false (Some x) form digits arg = refl
 
 pub bad_as_before : (line : List ℕ) → is_bad (request_of line) ≡ bad_line line
 unfolding request_of bad_line
 bad_as_before line = any_fault (too_long line) (not (in_form line)) (bad_digits (digits_text line)) (name_of (name_text line)) _ _ _
 
 -- what a line asks for, by the tests in their order
-pub long_asks : (line : List ℕ) → too_long line ≡ true → request_of line ≡ Bad 71 long_column
+pub long_asks : (line : List ℕ) → too_long line ≡ true → request_of line ≡ Err TooLong
 unfolding request_of
 long_asks line e = rw e
 
 pub form_asks :
-    (line : List ℕ) (column : ℕ) → too_long line ≡ false → in_form line ≡ false → column ≡ form_column line → Bad 72 column ≡ request_of line
+    (line : List ℕ) (column : ℕ) → too_long line ≡ false → in_form line ≡ false → column ≡ form_column line → Err (NotInForm column) ≡ request_of line
 unfolding request_of
 form_asks line column s f e = rw (s, f, e)
 
 pub name_asks :
-    (line : List ℕ) → too_long line ≡ false → in_form line ≡ true → unknown_name (name_of (name_text line)) ≡ true → request_of line ≡ Bad 73 name_column
+    (line : List ℕ) → too_long line ≡ false → in_form line ≡ true → unknown_name (name_of (name_text line)) ≡ true → request_of line ≡ Err UnknownName
 unfolding request_of
 name_asks line s f e = rw (s, f, e)
 
 pub number_asks :
     (line : List ℕ) → too_long line ≡ false → in_form line ≡ true → unknown_name (name_of (name_text line)) ≡ false → bad_digits (digits_text line) ≡ true
-    → request_of line ≡ Bad 75 (number_column line)
+    → request_of line ≡ Err (BadDigits (number_column line))
 unfolding request_of
 number_asks line s f u e = rw (s, f, u, e)
 
 pub all_asks :
     (line : List ℕ) → too_long line ≡ false → in_form line ≡ true → unknown_name (name_of (name_text line)) ≡ false → bad_digits (digits_text line) ≡ false
-    → request_of line ≡ asked (name_of (name_text line)) (value_of (digits_text line))
+    → request_of line ≡ asked_by (name_of (name_text line)) (value_of (digits_text line))
 unfolding request_of
 all_asks line s f u e = rw (s, f, u, e)
 
@@ -488,15 +485,15 @@ good_line line e =
       number = neither_right (t1 || t2 || t3) t4 e;
     }
 
-good_asks : (line : List ℕ) → Good line → request_of line ≡ asked (name_of (name_text line)) (value_of (digits_text line))
+good_asks : (line : List ℕ) → Good line → request_of line ≡ asked_by (name_of (name_text line)) (value_of (digits_text line))
 good_asks line g = all_asks line g.short (form_in line g.form) g.known g.number
 
-pub good_request : (line : List ℕ) → bad_line line ≡ false → request_of line ≡ asked (name_of (name_text line)) (value_of (digits_text line))
+pub good_request : (line : List ℕ) → bad_line line ≡ false → request_of line ≡ asked_by (name_of (name_text line)) (value_of (digits_text line))
 good_request line b = good_asks line (good_line line b)
 
 -- the text of a listed word and a number, of no more digits than a line may have, passes the four tests
 module _ (word : List ℕ) (x : Name) (n : ℕ) (listed : Listed names word x) where
-  word_letters : Some letter word
+  word_letters : Run letter word
   word_letters = record { each = (listed_good word x listed).letters; one = (listed_good word x listed).some }
 
   text : List ℕ
@@ -512,66 +509,61 @@ module _ (word : List ℕ) (x : Name) (n : ℕ) (listed : Listed names word x) w
       record {
         short = le-ltb line_limit (length text) (omega (arith, g.few, whole_length word s word_letters));
         form = pieces_form word s word_letters (record { each = decimal_digits n; one = decimal_some n });
-        known = rw (e, name_back word x listed) g.known;
+        known = rw (e, name_back word x listed) refl;
         number = rw f (neither (decimal_needed n) (le-ltb digit_limit (length s) d));
       }
 
-  text_asks : length (decimal_text n) ≤ digit_limit → request_of text ≡ asked x n
+  text_asks : length (decimal_text n) ≤ digit_limit → request_of text ≡ Ok (asked x n)
   unfolding text
   text_asks d =
       good_asks text (text_good d)
-      ∙ (λ i. asked ((ap name_of (name_text_lem word (decimal_text n) word_letters) ∙ name_back word x listed) i) ((ap value_of (digits_text_lem word (decimal_text n) word_letters) ∙ value_of_decimal n) i))
+      ∙ (λ i. asked_by ((ap name_of (name_text_lem word (decimal_text n) word_letters) ∙ name_back word x listed) i) ((ap value_of (digits_text_lem word (decimal_text n) word_letters) ∙ value_of_decimal n) i))
 
 -- a good line is such a text
-good_spelled : (line : List ℕ) → Good line → Spelled line (name_of (name_text line)) (value_of (digits_text line))
-good_spelled line g =
+good_spelled : (line : List ℕ) (x : Name) → Good line → name_of (name_text line) ≡ Some x → Spelled line x (value_of (digits_text line))
+good_spelled line x g e =
     let s = digits_text line in
     let d = sym (decimal_of_value s g.form.digits g.form.whole (neither_left (needless_zero s) (too_many_digits s) g.number)) in
     record {
       word = name_text line;
-      listed = name_only (name_text line) g.known;
+      listed = name_only (name_text line) x e;
       few = rw (sym d) (few s g.number);
       text = form_pieces line g.form ∙ ap (λ (t : List ℕ). op_text ++ (name_text line ++ (arg_text ++ t))) d;
     }
 
--- two names that are known ask for the same thing only if they and their numbers are the same
-asked_same : (x y : Name) (m n : ℕ) → unknown_name x ≡ false → unknown_name y ≡ false → asked x m ≡ asked y n → (x ≡ y) × (m ≡ n)
-asked_same PartName PartName m n t u e = (refl, cc)
-asked_same PartName (ActName b) m n t u e = absurd (let z : ◌≡◌ {A = ℕ} 0 1 = cc in omega arith)
-asked_same (ActName a) PartName m n t u e = absurd (let z : ◌≡◌ {A = ℕ} 0 1 = cc in omega arith)
-asked_same (ActName a) (ActName b) m n t u e = (cc, cc)
-asked_same PartName Unknown m n t u e = absurd (true≢false u)
-asked_same (ActName a) Unknown m n t u e = absurd (true≢false u)
-asked_same Unknown y m n t u e = absurd (true≢false t)
+-- two names ask for the same thing only if they and their numbers are the same
+asked_same : (x y : Name) (m n : ℕ) → asked x m ≡ asked y n → (x ≡ y) × (m ≡ n)
+asked_same PartName PartName m n e = (refl, cc)
+asked_same PartName (ActName b) m n e = absurd (let z : ◌≡◌ {A = ℕ} 0 1 = cc in omega arith)
+asked_same (ActName a) PartName m n e = absurd (let z : ◌≡◌ {A = ℕ} 0 1 = cc in omega arith)
+asked_same (ActName a) (ActName b) m n e = (cc, cc)
+
+ok_same : {x y : Request} → ◌≡◌ {A = Result Request Fault} (Ok x) (Ok y) → x ≡ y
+ok_same e = cc
 
 -- a line asks for a name's thing exactly when it is its text
-pub asks_exactly : (line : List ℕ) (x : Name) (n : ℕ) → unknown_name x ≡ false → (request_of line ≡ asked x n) ↔ Spelled line x n
+pub asks_exactly : (line : List ℕ) (x : Name) (n : ℕ) → (request_of line ≡ Ok (asked x n)) ↔ Spelled line x n
 unfolding text whole_line ending
-asks_exactly line x n u = (
+asks_exactly line x n = (
   λ e.
-      let b : bad_line line ≡ false = sym (bad_as_before line) ∙ ap is_bad e ∙ known_asks x n u in
+      let b : bad_line line ≡ false = sym (bad_as_before line) ∙ ap is_bad e in
       let g = good_line line b in
-      let s = asked_same (name_of (name_text line)) x (value_of (digits_text line)) n g.known u (sym (good_asks line g) ∙ e) in
-      let w = good_spelled line g in
-      record {
-        word = w.word;
-        listed = rw s.0 at w.listed;
-        few = rw s.1 at w.few;
-        text = rw s.1 at w.text;
-      },
+      let y = named (name_of (name_text line)) g.known in
+      let v = value_of (digits_text line) in
+      let a : request_of line ≡ Ok (asked y.0 v) = good_asks line g ∙ ap (λ (z : Option Name). asked_by z v) y.1 in
+      let s = asked_same y.0 x v n (ok_same (sym a ∙ e)) in
+      subst (Spelled line x) s.1 (good_spelled line x g (y.1 ∙ ap Some s.0)),
   λ w. ap request_of w.text ∙ text_asks w.word x n w.listed w.few,
 )
 
 -- a bad line's number is above 70 and has two digits, and so has its column at most
-abbrev pub TwoDigits : Request → Type 0
-TwoDigits (PartLine arg) = Unit {0}
-TwoDigits (ActLine act arg) = Unit {0}
-TwoDigits (Bad number column) = (70 < number) × (number < 100) × (column < 100)
+abbrev pub TwoDigits : Result Request Fault → Type 0
+TwoDigits (Ok request) = Unit {0}
+TwoDigits (Err fault) = (70 < fault_number fault) × (fault_number fault < 100) × (fault_column fault < 100)
 
-asked_small : (x : Name) (arg : ℕ) → TwoDigits (asked x arg)
-asked_small PartName arg = tt
-asked_small (ActName act) arg = tt
-asked_small Unknown arg = (omega arith, omega arith, omega arith)
+asked_small : (x : Option Name) (arg : ℕ) → TwoDigits (asked_by x arg)
+asked_small None arg = (omega arith, omega arith, omega arith)
+asked_small (Some x) arg = tt
 
 pub fault_small : (line : List ℕ) → TwoDigits (request_of line)
 unfolding request_of number_column
@@ -610,10 +602,10 @@ none_append (r ∷ rows) more =
 -- what a line of the form with a listed name asks for, where it is not bad; and a line that asks for a name's thing is such a one
 pub listed_asks :
     (line : List ℕ) (f : Formed line) (x : Name) → Listed names f.name x → is_bad (request_of line) ≡ false
-    → request_of line ≡ asked x (value_of (digits_text line))
+    → request_of line ≡ Ok (asked x (value_of (digits_text line)))
 listed_asks line f x l b =
     good_request line (sym (bad_as_before line) ∙ b)
-    ∙ ap (λ (y : Name). asked y (value_of (digits_text line))) (ap name_of (pieces line f).name_is ∙ name_back f.name x l)
+    ∙ ap (λ (y : Option Name). asked_by y (value_of (digits_text line))) (ap name_of (pieces line f).name_is ∙ name_back f.name x l)
 
 pub spelled_formed : (line : List ℕ) (x : Name) (arg : ℕ) → Spelled line x arg → (f : Formed line) × Listed names f.name x
 spelled_formed line x arg w = (

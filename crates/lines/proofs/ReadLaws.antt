@@ -11,27 +11,26 @@ use borrow.Author.Tests.{eq-eqb, ne_eqb}
 use lib.Dec.{eqb}
 use lib.ListN.{length, drop}
 use lib.Seq.{take_at, drop_at, drop-append_seam}
+use Rattle.std.specs.Prelude.{Option, Some, None}
 use Rattle.base.proofs.Tests.{yes}
 use Rattle.text.specs.Bytes.{agreed, leading, newline, plain}
 use Rattle.text.specs.Decimal.{value_of, decimal_text}
 use Rattle.text.proofs.BytesLaws.{leading_append, leading_join, agreed_itself}
 use Rattle.text.proofs.DecimalLaws.{value_of_decimal, decimal_without, decimal_is}
-use Rattle.lines.specs.declared.Out.{Out}
-use Rattle.lines.specs.declared.Out.TheVariants.{Value, Z}
 use Rattle.lines.specs.Print.{out_text, level_out, no_word, out_word, irq_word, wdo_word, fields_text, answer_chars, answer_line}
 use Rattle.lines.specs.Read.{solid, shown_read, Field, field, text_read, after_word, field_read, no_field, out_field, irq_field, wdo_field, shown_or, high_shown, number_read, out_read, irq_read, wdo_read}
 
 -- what a text shows is what it was printed for
-shown_back : (out : Out) → shown_read (out_text out) ≡ out
+shown_back : (out : Option ℕ) → shown_read (out_text out) ≡ out
 unfolding shown_read leading
-shown_back (Value n) = sym (yes (Value (value_of (decimal_text n))) Z (decimal_is n)) ∙ ap Value (value_of_decimal n)
-shown_back Z = refl
+shown_back (Some n) = sym (yes (Some (value_of (decimal_text n))) None (decimal_is n)) ∙ ap Some (value_of_decimal n)
+shown_back None = refl
 
 -- no byte below the digits stands in it
-out_without : (c : ℕ) → c < 48 → (out : Out) → leading (λ b. not (eqb b c)) (out_text out) ≡ length (out_text out)
+out_without : (c : ℕ) → c < 48 → (out : Option ℕ) → leading (λ b. not (eqb b c)) (out_text out) ≡ length (out_text out)
 unfolding leading
-out_without c h (Value n) = decimal_without c n h
-out_without c h Z = simp (ne_eqb 0x7a c (λ e. omega arith))
+out_without c h (Some n) = decimal_without c n h
+out_without c h None = simp (ne_eqb 0x7a c (λ e. omega arith))
 
 -- a field's word and its text, with what does not go on with it behind
 after_word_lem : (word s : List ℕ) → after_word word (word ++ s) ≡ s
@@ -39,7 +38,7 @@ unfolding after_word
 after_word_lem word s =
     sym (yes (drop (length word) (word ++ s)) [] (eq-eqb (agreed word (word ++ s)) (length word) (agreed_itself word s))) ∙ drop-append_seam word s
 
-text_back : (out : Out) (rest : List ℕ) → leading solid rest ≡ 0 → text_read (out_text out ++ rest) ≡ field out rest
+text_back : (out : Option ℕ) (rest : List ℕ) → leading solid rest ≡ 0 → text_read (out_text out ++ rest) ≡ field out rest
 unfolding text_read
 text_back out rest h =
     let t = out_text out in
@@ -50,7 +49,7 @@ text_back out rest h =
     λ i. field (s i) (l i)
 
 field_back :
-    (word : List ℕ) (out : Out) (rest : List ℕ) → leading solid rest ≡ 0 → field_read word (word ++ out_text out ++ rest) ≡ field out rest
+    (word : List ℕ) (out : Option ℕ) (rest : List ℕ) → leading solid rest ≡ 0 → field_read word (word ++ out_text out ++ rest) ≡ field out rest
 field_back word out rest h =
     ap (field_read word) (append_assoc word (out_text out) rest) ∙ ap text_read (after_word_lem word (out_text out ++ rest)) ∙ text_back out rest h
 
@@ -62,11 +61,11 @@ joined : (a b c d : List ℕ) → a ++ b ++ c ++ d ≡ a ++ (b ++ (c ++ d))
 joined a b c d = simp append_assoc
 
 -- no character of a field is a newline
-field_plain : (word : List ℕ) (out : Out) → leading plain word ≡ length word → leading plain (word ++ out_text out) ≡ length (word ++ out_text out)
+field_plain : (word : List ℕ) (out : Option ℕ) → leading plain word ≡ length word → leading plain (word ++ out_text out) ≡ length (word ++ out_text out)
 field_plain word out e = leading_join plain word (out_text out) e (out_without newline (omega arith) out)
 
 -- the four fields, whatever they show
-module _ (number out irq wdo : Out) where
+module _ (number out irq wdo : Option ℕ) where
   abbrev no_piece : List ℕ
   no_piece = no_word ++ out_text number
 
@@ -105,7 +104,7 @@ module _ (number out irq wdo : Out) where
       leading_join plain (no_piece ++ out_piece ++ irq_piece) wdo_piece c (field_plain wdo_word wdo refl)
 
 -- an answer's number, out and levels are read back, and no character of it is a newline
-module _ (number : ℕ) (out : Out) (irq wdo : Bool) where
+module _ (number : ℕ) (out : Option ℕ) (irq wdo : Bool) where
   pub number_read_lem : number_read (answer_chars number out irq wdo) ≡ number
   unfolding number_read answer_chars
   number_read_lem = ap (λ (f : Field). shown_or 7 f.shown) (no_back _ _ _ _)
@@ -128,7 +127,7 @@ module _ (number : ℕ) (out : Out) (irq wdo : Bool) where
 
 -- two answers with the same text are the same
 pub same_answer :
-    (m n : ℕ) (o p : Out) (i j v w : Bool) → answer_line m o i v ≡ answer_line n p j w → (m ≡ n) × (o ≡ p) × (i ≡ j) × (v ≡ w)
+    (m n : ℕ) (o p : Option ℕ) (i j v w : Bool) → answer_line m o i v ≡ answer_line n p j w → (m ≡ n) × (o ≡ p) × (i ≡ j) × (v ≡ w)
 unfolding answer_line
 same_answer m n o p i j v w e =
     let c = append_cancel_right (answer_chars m o i v) (answer_chars n p j w) (newline ∷ []) e in (

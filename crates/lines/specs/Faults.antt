@@ -8,7 +8,7 @@ use Rattle.lines.specs.declared.Name.{Name}
 use Rattle.lines.specs.Line.{names}
 
 -- bytes of a kind, one at least
-pub record Some (kind : ℕ → Bool) (s : List ℕ) : Type 0 where
+pub record Run (kind : ℕ → Bool) (s : List ℕ) : Type 0 where
   pub each : leading kind s ≡ length s
   pub one : 0 < length s
 
@@ -16,8 +16,8 @@ pub record Some (kind : ℕ → Bool) (s : List ℕ) : Type 0 where
 pub record Formed (line : List ℕ) : Type 0 where
   pub name : List ℕ
   pub number : List ℕ
-  pub letters : Some letter name
-  pub digits : Some digit number
+  pub letters : Run letter name
+  pub digits : Run digit number
   pub text : line ≡ bytes_of "op=" ++ (name ++ (bytes_of " arg=" ++ number))
 
 -- some line of the form begins with these bytes

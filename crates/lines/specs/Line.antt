@@ -1,15 +1,15 @@
 -- A line of a tape, without its newline: its pieces, its form, and the names. Every byte of it is a character.
 -- What a line asks for is not said here: that is Request.
 -- Assumes nothing.
-use Rattle.std.specs.Prelude.{ℕ, suc, ◌+◌, Bool, ◌&&◌, ◌||◌, List, [], ◌∷◌, ltb, eqb, length, take, drop}
+use Rattle.std.specs.Prelude.{ℕ, suc, ◌+◌, Bool, ◌&&◌, ◌||◌, Option, List, [], ◌∷◌, ltb, eqb, length, take, drop}
 use Prim.Native.String.{String}
 use Rattle.record.specs.declared.Act.TheVariants.{Select, Byte, End, Wait, Cut, Up, Set}
 use Rattle.record.specs.declared.Pin.TheVariants.{Evls, Evhs}
 use Rattle.base.specs.Words.{pick}
-use Rattle.text.specs.Bytes.{bytes_of, agreed, begins, leading, letter, digit, chosen}
+use Rattle.text.specs.Bytes.{bytes_of, agreed, begins, leading, letter, digit, found}
 use Rattle.text.specs.Decimal.{needless_zero}
 use Rattle.lines.specs.declared.Name.{Name}
-use Rattle.lines.specs.declared.Name.TheVariants.{PartName, ActName, Unknown}
+use Rattle.lines.specs.declared.Name.TheVariants.{Part as PartName, Act as ActName}
 
 -- T3. No more than 64 characters.
 abbrev pub line_limit : ℕ
@@ -75,8 +75,8 @@ names =
     ∷ ("evhs", ActName (Set Evhs))
     ∷ []
 
-unfoldable pub name_of : List ℕ → Name
-name_of s = chosen names Unknown s
+unfoldable pub name_of : List ℕ → Option Name
+name_of s = found names s
 
 -- T2. One to eight digits, and no 0 in front of another digit. That there is one is of the form.
 abbrev pub digit_limit : ℕ

@@ -6,18 +6,11 @@ use Rattle.record.specs.declared.Act.{Act}
 use Rattle.record.specs.declared.Act.TheVariants.{Select, Byte, End, Wait, Cut, Up, Set}
 use Rattle.text.specs.Bytes.{bytes_of, newline}
 use Rattle.text.specs.Decimal.{decimal_text}
-use Rattle.lines.specs.declared.Out.{Out}
-use Rattle.lines.specs.declared.Out.TheVariants.{Value, Z}
 
 -- T8, G11. What `out` shows, case by case: a decimal, or z for none.
-abbrev pub out_text : Out → List ℕ
-out_text (Value n) = decimal_text n
-out_text Z = bytes_of "z"
-
--- A4, A38, G2. A reply is what the chip drives, a byte or the first bits of one, or none.
-abbrev pub reply_out : Option ℕ → Out
-reply_out (Some b) = Value b
-reply_out None = Z
+abbrev pub out_text : Option ℕ → List ℕ
+out_text (Some n) = decimal_text n
+out_text None = bytes_of "z"
 
 -- A6. A wait shows its ticks, a cut its count.
 abbrev pub shows_count : Act → Bool
@@ -29,13 +22,14 @@ shows_count Cut = true
 shows_count Up = false
 shows_count (Set p) = false
 
--- T8, A34. An act that is done shows its count or its reply; a refused one shows none.
-abbrev pub out_of : ℕ → Act → Option ℕ → ℕ → Out
-out_of number act reply count = pick (eqb number 0) (pick (shows_count act) (Value count) (reply_out reply)) Z
+-- T8, A4, A34, A38, G2. An act that is done shows its count, or its reply: what the chip drives, a byte or the first bits of one, or none. A refused one shows
+-- none.
+abbrev pub out_of : ℕ → Act → Option ℕ → ℕ → Option ℕ
+out_of number act reply count = pick (eqb number 0) (pick (shows_count act) (Some count) reply) None
 
 -- a level: 1 high, 0 low
-abbrev pub level_out : Bool → Out
-level_out high = Value (flag high)
+abbrev pub level_out : Bool → Option ℕ
+level_out high = Some (flag high)
 
 -- T8. The words of an answer, each before what it shows.
 abbrev pub no_word : List ℕ
@@ -51,15 +45,15 @@ abbrev pub wdo_word : List ℕ
 wdo_word = bytes_of " wdo="
 
 -- T8. The four fields, with what each shows.
-unfoldable pub fields_text : Out → Out → Out → Out → List ℕ
+unfoldable pub fields_text : Option ℕ → Option ℕ → Option ℕ → Option ℕ → List ℕ
 fields_text number out irq wdo = (no_word ++ out_text number) ++ (out_word ++ out_text out) ++ (irq_word ++ out_text irq) ++ (wdo_word ++ out_text wdo)
 
 -- T8. The characters of an answer: its number, `out`, and the two levels.
-unfoldable pub answer_chars : ℕ → Out → Bool → Bool → List ℕ
-answer_chars number out irq wdo = fields_text (Value number) out (level_out irq) (level_out wdo)
+unfoldable pub answer_chars : ℕ → Option ℕ → Bool → Bool → List ℕ
+answer_chars number out irq wdo = fields_text (Some number) out (level_out irq) (level_out wdo)
 
 -- and as a line, which ends with a newline
-unfoldable pub answer_line : ℕ → Out → Bool → Bool → List ℕ
+unfoldable pub answer_line : ℕ → Option ℕ → Bool → Bool → List ℕ
 answer_line number out irq wdo = answer_chars number out irq wdo ++ (newline ∷ [])
 
 -- the most bytes that a number of 64 bits takes, and a whole answer

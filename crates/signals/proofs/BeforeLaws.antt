@@ -9,6 +9,7 @@ use borrow.Author.Tests.{eqb-true}
 use lib.Dec.{ltb, eqb}
 use lib.ListN.{length, get_or, set}
 use lib.Seq.{set-get_or}
+use Rattle.std.specs.Prelude.{Result, Ok, Err}
 use Rattle.base.specs.Words.{pick, bit}
 use Rattle.base.specs.Wait.{plus, waited_by, steps}
 use Rattle.base.proofs.Tests.{by_cases, pick_case, neither, neither_left}
@@ -52,8 +53,9 @@ use Rattle.acts.specs.Act.{Outcome, outcome, refused, waited_outcome, accepted, 
 use Rattle.acts.proofs.OutcomeLaws.{answered_by_table}
 use Rattle.acts.proofs.ValidLaws.{Valid, performed_valid, fresh_valid}
 use Rattle.run.specs.Claim.{Input}
+use Rattle.lines.specs.declared.Fault.{Fault}
 use Rattle.lines.specs.declared.Request.{Request}
-use Rattle.lines.specs.declared.Request.TheVariants.{PartLine, ActLine, Bad}
+use Rattle.lines.specs.declared.Request.TheVariants.{Part as PartLine, Act as ActLine}
 use Rattle.lines.specs.Request.{request_of}
 use Rattle.lines.specs.Print.{answer_line}
 use Rattle.answers.specs.Answer.{Setup, setup, no_part, fresh_setup, LineAnswer, outcome_answer, request_answer, level_high, answer_text}
@@ -324,12 +326,12 @@ text_before a r =
     (λ f. ap (λ (b : Bool). answer_line a.number a.out (level_high a.after.part b) (level_high a.after.part (wdo_low a.after.chip.device)))
     (irq_before_lem a.after.chip.device (r.known f).1))
 
-line_before : (q : Request) (s : Setup) → Ready s → PlainRequest q s → (answer_by today q s ≡ answer_by before q s) × Ready (answer_by today q s).after
-line_before (PartLine arg) s r p = (
+line_before : (q : Result Request Fault) (s : Setup) → Ready s → PlainRequest q s → (answer_by today q s ≡ answer_by before q s) × Ready (answer_by today q s).after
+line_before (Ok (PartLine arg)) s r p = (
   refl,
   pick_case (λ (a : LineAnswer). Ready a.after) (no_part s) (pick_case (λ (a : LineAnswer). Ready a.after) (is_part arg) (fresh_ready arg) r) r,
 )
-line_before (ActLine act arg) s r p =
+line_before (Ok (ActLine act arg)) s r p =
     by_cases (no_part s)
     (λ t. rw t (refl, r))
     (λ f.
@@ -337,24 +339,24 @@ line_before (ActLine act arg) s r p =
     let one = step_before s.part act arg s.chip k.0 k.1 p.0 p.1 in
     rw f
     (ap (outcome_answer s.part act) one.0, record { known = λ h. (performed_valid s.part act arg s.chip k.0, one.1) }))
-line_before (Bad number column) s r p = (refl, r)
+line_before (Err fault) s r p = (refl, r)
 
 lines_before : (lines : List (List ℕ)) (s : Setup) → Ready s → PlainLines lines s → printed_by today lines s ≡ printed_by before lines s
 unfolding printed_by PlainLines
 lines_before [] s r p = refl
 lines_before (line ∷ lines) s r p =
-    let q : Request = request_of line in
+    let q : Result Request Fault = request_of line in
     let one = line_before q s r p.0 in
     let a : LineAnswer = answer_by today q s in
     let g : PlainLines lines a.after = subst (λ (y : LineAnswer). PlainLines lines y.after) (sym one.0) p.1 in
     (λ i. text_before a one.1 i ∷ lines_before lines a.after one.1 g i)
     ∙ ap (λ (y : LineAnswer). text_by before y ∷ printed_by before lines y.after) one.0
 
-printed_today : (q : Request) (s : Setup) → text_by today (answer_by today q s) ≡ answer_text (request_answer q s)
+printed_today : (q : Result Request Fault) (s : Setup) → text_by today (answer_by today q s) ≡ answer_text (request_answer q s)
 unfolding answer_text
-printed_today (PartLine arg) s = refl
-printed_today (ActLine act arg) s = refl
-printed_today (Bad number column) s = refl
+printed_today (Ok (PartLine arg)) s = refl
+printed_today (Ok (ActLine act arg)) s = refl
+printed_today (Err fault) s = refl
 
 -- V17. The promise.
 pub as_before_lem : AsBefore

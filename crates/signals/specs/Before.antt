@@ -2,7 +2,7 @@
 -- today's record and leaves its levels and counts alone. Six places differ from today's chip: a tick, the line IRQ, what stops a wait, what follows
 -- from a WRITE, a cut without the battery, and the rows of number 6. What is not said here anew is today's.
 -- Assumes nothing.
-use Rattle.std.specs.Prelude.{ℕ, ◌-◌, ◌≡◌, Bool, false, not, ◌&&◌, ◌||◌, List, [], ◌∷◌, ltb, eqb, length, get_or, set, Option, None}
+use Rattle.std.specs.Prelude.{ℕ, ◌-◌, ◌≡◌, Bool, false, not, ◌&&◌, ◌||◌, List, [], ◌∷◌, ltb, eqb, length, get_or, set, Option, None, Result, Ok, Err}
 use Rattle.base.specs.Words.{pick, bit, any_of}
 use Rattle.base.specs.Wait.{Waited, waited_by}
 use Rattle.events.specs.declared.Inputs.{Inputs}
@@ -34,9 +34,10 @@ use Rattle.frames.specs.Frame.{stage_after, load_after}
 use Rattle.power.specs.Power.{watchdog_cut, failure_stamped, stopped_by, cut_count, cut_world}
 use Rattle.acts.specs.Act.{Outcome, outcome, refused, waited_outcome, accepted, performed}
 use Rattle.run.specs.Claim.{Input}
+use Rattle.lines.specs.declared.Fault.{Fault}
 use Rattle.lines.specs.declared.Request.{Request}
-use Rattle.lines.specs.declared.Request.TheVariants.{PartLine, ActLine, Bad}
-use Rattle.lines.specs.Request.{request_of}
+use Rattle.lines.specs.declared.Request.TheVariants.{Part as PartLine, Act as ActLine}
+use Rattle.lines.specs.Request.{request_of, fault_number, fault_column}
 use Rattle.lines.specs.Print.{answer_line}
 use Rattle.answers.specs.Answer.{Setup, setup, no_part, LineAnswer, faulty_line, misplaced, part_answer, outcome_answer, request_answer, level_high, answer_text}
 use Rattle.signals.specs.Claim.{to_event}
@@ -199,10 +200,10 @@ NoFlags part [] w = Unit {0}
 NoFlags part (x ∷ xs) w = NoFlag part x.act x.arg w × NoFlags part xs (performed_before part x.act x.arg w).after
 
 -- Of a tape. What a line asks for is answered by a make of the chip: today's answers (Answer), with the make's acts and its IRQ.
-abbrev pub answer_by : Make → Request → Setup → LineAnswer
-answer_by m (PartLine arg) s = part_answer arg s
-answer_by m (ActLine act arg) s = pick (no_part s) (misplaced s) (outcome_answer s.part act (m.does s.part act arg s.chip))
-answer_by m (Bad number column) s = faulty_line number column s
+abbrev pub answer_by : Make → Result Request Fault → Setup → LineAnswer
+answer_by m (Ok (PartLine arg)) s = part_answer arg s
+answer_by m (Ok (ActLine act arg)) s = pick (no_part s) (misplaced s) (outcome_answer s.part act (m.does s.part act arg s.chip))
+answer_by m (Err fault) s = faulty_line (fault_number fault) (fault_column fault) s
 
 abbrev pub text_by : Make → LineAnswer → List ℕ
 text_by m a =
@@ -217,10 +218,10 @@ printed_by m (line ∷ lines) s =
     text_by m a ∷ printed_by m lines a.after
 
 -- a line that names no pin, nor an act that writes a flag; and lines of that kind, on the chip of before
-abbrev pub PlainRequest : Request → Setup → Type 0
-PlainRequest (PartLine arg) s = Unit {0}
-PlainRequest (ActLine act arg) s = NoPin act × NoFlag s.part act arg s.chip
-PlainRequest (Bad number column) s = Unit {0}
+abbrev pub PlainRequest : Result Request Fault → Setup → Type 0
+PlainRequest (Ok (PartLine arg)) s = Unit {0}
+PlainRequest (Ok (ActLine act arg)) s = NoPin act × NoFlag s.part act arg s.chip
+PlainRequest (Err fault) s = Unit {0}
 
 unfoldable pub PlainLines : List (List ℕ) → Setup → Type 0
 PlainLines [] s = Unit {0}
@@ -244,6 +245,6 @@ pub record AsBefore : Type 0 where
   -- the lines of a tape, from its start: the same bytes are printed
   pub tape : (lines : List (List ℕ)) (w : World) → PlainLines lines (setup 0 w) → printed_by today lines (setup 0 w) ≡ printed_by before lines (setup 0 w)
   -- and on today's chip these bytes are the answers
-  pub prints : (r : Request) (s : Setup) → text_by today (answer_by today r s) ≡ answer_text (request_answer r s)
+  pub prints : (r : Result Request Fault) (s : Setup) → text_by today (answer_by today r s) ≡ answer_text (request_answer r s)
   -- where it begins the lines are the same
   pub lines : (d : Device) → Quiet (inputs_of d) → irq_low d ≡ irq_before d

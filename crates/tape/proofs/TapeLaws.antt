@@ -13,6 +13,7 @@ use borrow.Author.Tests.{lt-ltb, le-ltb, le-leb, leb-true, leb-false, ltb-true, 
 use lib.Dec.{leb, ltb, eqb}
 use lib.ListN.{length, take, drop, get_or, length-append, length-take, drop_of_length-le, take-append-drop}
 use lib.Seq.{take_all, take_at, drop-cons, take-append-le, take-append-add, take-take, drop-drop, length-take-le, append_snoc, sets-eq}
+use Rattle.std.specs.Prelude.{Result}
 use Rattle.base.specs.Words.{over}
 use Rattle.base.proofs.OverLaws.{over_start, take_over}
 use Rattle.base.proofs.Tests.{by_cases, yes, no, either, both_left, both_right, both_true, neither_left, neither_right}
@@ -21,6 +22,7 @@ use Rattle.text.specs.Bytes.{leading, newline, plain}
 use Rattle.text.specs.Buffer.{Buffer, buffer, append, room_in}
 use Rattle.text.proofs.BytesLaws.{leading_first, leading_rest, leading_taken, leading_ends, leading_within}
 use Rattle.text.proofs.BufferLaws.{append_none, append_join, room_append}
+use Rattle.lines.specs.declared.Fault.{Fault}
 use Rattle.lines.specs.declared.Request.{Request}
 use Rattle.lines.specs.Line.{line_limit}
 use Rattle.lines.specs.Request.{request_of}
@@ -66,7 +68,7 @@ head_asks l =
 
 pub head_answers : (l : List ℕ) (s : Setup) → line_answer (head l) s ≡ line_answer l s
 unfolding line_answer
-head_answers l s = ap (λ (r : Request). request_answer r s) (head_asks l)
+head_answers l s = ap (λ (r : Result Request Fault). request_answer r s) (head_asks l)
 
 -- a piece put behind what is there of a head: how long the head is then, and the lent bytes of the line
 pub head_put :

@@ -1,10 +1,10 @@
--- Laws of agreement with a word and of leading bytes, at the place that a scan has reached and of texts that are joined; and of a choice by
--- words: what is chosen stands beside the word, and where no word stands twice a word chooses what stands beside it.
+-- Laws of agreement with a word and of leading bytes, at the place that a scan has reached and of texts that are joined; and of a look-up by
+-- words: what is found stands beside the word, and where no word stands twice a word finds what stands beside it.
 -- Assumes nothing.
 use mathlib.Core.Path.{◌≡◌, refl, sym, ap, ◌∙◌}
 use mathlib.Core.Bool.{Bool, true, false, not}
 use mathlib.Core.List.{List, [], ◌∷◌, ◌++◌, append-nil}
-use mathlib.Core.Logic.{◌⊎◌, inl, inr, ⊎_elim}
+use mathlib.Core.Logic.{inl, inr, ⊎_elim}
 use Prim.Native.Nat.{ℕ, suc, ◌+◌, ◌<◌, ◌≤◌, suc-le-suc}
 use Prim.Native.String.{String}
 use native.Mathlib.Nat.{zero-add, suc-add, not-suc-le-zero, le_of_suc-le-suc, suc-ne-zero, suc_inj}
@@ -15,7 +15,8 @@ use lib.Dec.{eqb}
 use lib.ListN.{length, get_or, drop, take, drop_of_length-le, length-append}
 use lib.Seq.{drop-cons, drop-length}
 use Rattle.base.proofs.Tests.{by_cases, yes, no, pick_case, both_left, both_right, both_true}
-use Rattle.text.specs.Bytes.{bytes_of, agreed, begins, is_word, leading, chosen, Listed, all_rows, apart}
+use Rattle.std.specs.Prelude.{Some, None}
+use Rattle.text.specs.Bytes.{bytes_of, agreed, begins, is_word, leading, found, Listed, all_rows, apart}
 
 -- one more byte that agrees, the first that does not, and no more bytes
 pub agreed_more :
@@ -132,16 +133,20 @@ word_is word s e =
     let a = ap (agreed word) (e ∙ sym (append-nil word)) ∙ agreed_itself word [] in
     both_true (eq-eqb (length s) (length word) (ap length e)) (eq-eqb (agreed word s) (length word) a)
 
--- what is chosen stands beside the word, or is the other
-pub chosen_listed :
-    {A : Type 0} (rows : List (String × A)) (other : A) (s : List ℕ)
-    → Listed rows s (chosen rows other s) ⊎ (chosen rows other s ≡ other)
-unfolding chosen Listed
-chosen_listed [] other s = inr refl
-chosen_listed (row ∷ rows) other s =
+none_not_some : {A : Type 0} {x : A} → None ≡ Some x → ⊥
+none_not_some e = cc
+
+some_same : {A : Type 0} {x y : A} → Some x ≡ Some y → x ≡ y
+some_same e = cc
+
+-- what is found stands beside the word
+pub found_listed : {A : Type 0} (rows : List (String × A)) (s : List ℕ) (x : A) → found rows s ≡ Some x → Listed rows s x
+unfolding found Listed
+found_listed [] s x e = absurd (none_not_some e)
+found_listed (row ∷ rows) s x e =
     by_cases (is_word (bytes_of row.0) s)
-    (λ t. inl (inl (is_word_lem (bytes_of row.0) s t, sym (yes row.1 (chosen rows other s) t))))
-    (λ f. ⊎_elim (λ l. inl (inr (rw f l))) (λ e. inr (sym (no row.1 (chosen rows other s) f) ∙ e)) (chosen_listed rows other s))
+    (λ t. inl (is_word_lem (bytes_of row.0) s t, some_same (sym e ∙ sym (yes (Some row.1) (found rows s) t))))
+    (λ f. inr (found_listed rows s x (no (Some row.1) (found rows s) f ∙ e)))
 
 -- what holds of every row holds of a listed word and what stands beside it
 pub rows_listed :
@@ -154,16 +159,15 @@ rows_listed test (row ∷ rows) s x e l =
     let r = both_right (test (bytes_of row.0) row.1) (all_rows test rows) e in
     ⊎_elim (λ q. (λ i. test (q.0 i) (q.1 i)) ∙ t) (rows_listed test rows s x r) l
 
--- where no word stands twice, a listed word chooses what stands beside it
-pub listed_chosen :
-    {A : Type 0} (rows : List (String × A)) (other : A) (s : List ℕ) (x : A) → apart rows ≡ true → Listed rows s x → chosen rows other s ≡ x
-unfolding chosen Listed apart
-listed_chosen [] other s x e l = absurd l
-listed_chosen (row ∷ rows) other s x e l =
+-- where no word stands twice, by a listed word is found what stands beside it
+pub listed_found : {A : Type 0} (rows : List (String × A)) (s : List ℕ) (x : A) → apart rows ≡ true → Listed rows s x → found rows s ≡ Some x
+unfolding found Listed apart
+listed_found [] s x e l = absurd l
+listed_found (row ∷ rows) s x e l =
     let word = bytes_of row.0 in
     let test = all_rows (λ w y. not (is_word word w)) rows in
-    ⊎_elim (λ q. sym (yes row.1 (chosen rows other s) (word_is word s q.0)) ∙ sym q.1)
+    ⊎_elim (λ q. sym (yes (Some row.1) (found rows s) (word_is word s q.0)) ∙ ap Some (sym q.1))
     (λ k.
     let f = not-true (is_word word s) (rows_listed (λ w y. not (is_word word w)) rows s x (both_left test (apart rows) e) k) in
-    sym (no row.1 (chosen rows other s) f) ∙ listed_chosen rows other s x (both_right test (apart rows) e) k)
+    sym (no (Some row.1) (found rows s) f) ∙ listed_found rows s x (both_right test (apart rows) e) k)
     l

@@ -1,10 +1,10 @@
 -- Words over lists of bytes: the bytes of a plain text, how far a list agrees with a word, how many of its first bytes are of a kind, and the
--- choice of a thing by its word. They are no rule of a tape.
+-- look-up of a thing by its word. They are no rule of a tape.
 -- Assumes nothing.
-use Rattle.std.specs.Prelude.{ℕ, suc, ◌≡◌, Bool, true, not, ◌&&◌, List, [], ◌∷◌, ◌⊎◌, leb, eqb, length}
+use Rattle.std.specs.Prelude.{ℕ, suc, ◌≡◌, Bool, true, not, ◌&&◌, Option, Some, None, List, [], ◌∷◌, ◌⊎◌, leb, eqb, length}
 use Prim.Native.Char.{code}
 use Prim.Native.String.{String, [] as none, ◌∷◌ as ◌then◌}
-use Rattle.base.specs.Words.{pick, first_of, all_of}
+use Rattle.base.specs.Words.{pick, all_of}
 use Rattle.text.specs.declared.Kind.{Kind}
 use Rattle.text.specs.declared.Kind.TheVariants.{Letter, Digit, Plain}
 
@@ -56,9 +56,10 @@ of_kind Letter = letter
 of_kind Digit = digit
 of_kind Plain = plain
 
--- what stands beside the first word that s is, else the other
-unfoldable pub chosen : {A : Type 0} → List (String × A) → A → List ℕ → A
-chosen rows other s = first_of (λ word. is_word (bytes_of word) s) rows other
+-- what stands beside the first word that s is, if it is one
+unfoldable pub found : {A : Type 0} → List (String × A) → List ℕ → Option A
+found [] s = None
+found (row ∷ rows) s = pick (is_word (bytes_of row.0) s) (Some row.1) (found rows s)
 
 -- s is a word of the list, and x stands beside it
 unfoldable pub Listed : {A : Type 0} → List (String × A) → List ℕ → A → Type 0

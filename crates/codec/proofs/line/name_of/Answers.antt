@@ -1,11 +1,11 @@
 -- `codec::line::name_of`: the first word of the list that the text is, one call for each.
 -- Assumes nothing.
-use Rattle.text.specs.Bytes.{chosen}
+use Rattle.text.specs.Bytes.{found}
 use Rattle.lines.specs.Line.{name_of}
 use Rattle.codec.proofs.line.name_of.Goals as goal
 
 pub returns : goal.returns
-unfolding name_of chosen
+unfolding name_of found
 returns c =
     simp (
       c.choose.ensures,

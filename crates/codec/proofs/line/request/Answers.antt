@@ -2,16 +2,17 @@
 -- Assumes nothing.
 use native.Mathlib.Omega.{arith}
 use mathlib.Core.Path.{◌≡◌, sym, ap, ◌∙◌}
-use mathlib.Core.Bool.{Bool, true, false, not}
+use mathlib.Core.Bool.{Bool, true, false}
 use mathlib.Core.List.{List}
 use Prim.Native.Nat.{ℕ, ◌≤◌}
 use lib.ListN.{length, take}
 use borrow.Author.Tests.{lt-ltb, le-ltb}
+use Rattle.std.specs.Prelude.{Option, Ok, Err}
 use Rattle.text.specs.Decimal.{value_of, read_limit}
 use Rattle.lines.specs.declared.Name.{Name}
-use Rattle.lines.specs.declared.Request.TheVariants.{Bad}
+use Rattle.lines.specs.declared.Fault.TheVariants.{BadDigits}
 use Rattle.lines.specs.Line.{line_limit, too_long, in_form, name_text, name_of, digits_text, bad_digits}
-use Rattle.lines.specs.Request.{asked, unknown_name}
+use Rattle.lines.specs.Request.{asked_by, unknown_name}
 use Rattle.lines.proofs.LineLaws.{long_asks, form_asks, name_asks, number_asks, all_asks, few_digits}
 use Rattle.lines.proofs.FormLaws.{reach_longest}
 use Rattle.codec.proofs.line.request.Goals as goal
@@ -25,9 +26,8 @@ formed l e h = sym e ∙ h
 
 -- what the name is
 name_is :
-    {r : Bool} {n : Name} {t : List ℕ} (l : List ℕ)
-    → r ≡ unknown_name n → n ≡ name_of t → t ≡ name_text l → r ≡ unknown_name (name_of (name_text l))
-name_is l e n t = e ∙ ap unknown_name (n ∙ ap name_of t)
+    {n x : Option Name} {t : List ℕ} (l : List ℕ) → n ≡ x → n ≡ name_of t → t ≡ name_text l → name_of (name_text l) ≡ x
+name_is l e n t = ap name_of (sym t) ∙ sym n ∙ e
 
 -- what the digits are
 digits_are : {r : Bool} {t : List ℕ} (l : List ℕ) → r ≡ bad_digits t → t ≡ digits_text l → r ≡ bad_digits (digits_text l)
@@ -50,9 +50,10 @@ returns-then-not-formed c =
     form_asks l _ (short c.args.line.now c.if-line-gt-LINE_LIMIT.false) (sym c.in_form-formed.ensures ∙ c.if-not-formed.true)
     (omega (arith, c.form_reach.ensures))
 
-pub returns-then-unknown_name : goal.returns-then-unknown_name
-returns-then-unknown_name c =
-    sym (name_asks _ (short c.args.line.now c.if-line-gt-LINE_LIMIT.false) (formed c.args.line.now c.in_form-formed.ensures c.if-not-formed.false) (sym (name_is c.args.line.now c.unknown_name.ensures c.name_of-name.ensures c.name_text.ensures) ∙ c.if-unknown_name.true))
+pub returns-in_default : goal.returns-in_default
+returns-in_default c =
+    let l = c.args.line.now in
+    sym (name_asks _ (short l c.if-line-gt-LINE_LIMIT.false) (formed l c.in_form-formed.ensures c.if-not-formed.false) (ap unknown_name (name_is l c.in_default.is c.name_of.ensures c.name_text.ensures)))
 
 pub number_column-requires : goal.number_column-requires
 number_column-requires c =
@@ -60,16 +61,17 @@ number_column-requires c =
 
 pub returns-then-bad_digits : goal.returns-then-bad_digits
 returns-then-bad_digits c =
-    ap (λ (n : ℕ). Bad 75 n) c.number_column.ensures
-    ∙ sym (number_asks _ (short c.args.line.now c.if-line-gt-LINE_LIMIT.false) (formed c.args.line.now c.in_form-formed.ensures c.if-not-formed.false) (sym (name_is c.args.line.now c.unknown_name.ensures c.name_of-name.ensures c.name_text.ensures) ∙ c.if-unknown_name.false)
-    (sym (digits_are c.args.line.now c.bad_digits.ensures c.digits-text.ensures) ∙ c.if-bad_digits.true))
+    let l = c.args.line.now in
+    ap (λ (n : ℕ). Err (BadDigits n)) c.number_column.ensures
+    ∙ sym (number_asks _ (short l c.if-line-gt-LINE_LIMIT.false) (formed l c.in_form-formed.ensures c.if-not-formed.false) (ap unknown_name (name_is l c.in-Some.is c.name_of.ensures c.name_text.ensures))
+    (sym (digits_are l c.bad_digits.ensures c.digits-text.ensures) ∙ c.if-bad_digits.true))
 
 pub returns : goal.returns
 returns c =
     let l = c.args.line.now in
-    let g : bad_digits (digits_text l) ≡ false = sym (digits_are c.args.line.now c.bad_digits.ensures c.digits-text.ensures) ∙ c.if-bad_digits.false in
-    c.asked_for.ensures
-    ∙ (λ i. asked
-    ((c.name_of-name.ensures ∙ ap name_of c.name_text.ensures) i)
-    ((c.value_of.ensures ∙ ap (λ (s : List ℕ). value_of (take read_limit s)) c.digits-text.ensures ∙ ap value_of (few_digits (digits_text l) g)) i))
-    ∙ sym (all_asks l (short c.args.line.now c.if-line-gt-LINE_LIMIT.false) (formed c.args.line.now c.in_form-formed.ensures c.if-not-formed.false) (sym (name_is c.args.line.now c.unknown_name.ensures c.name_of-name.ensures c.name_text.ensures) ∙ c.if-unknown_name.false) g)
+    let n = name_is l c.in-Some.is c.name_of.ensures c.name_text.ensures in
+    let g : bad_digits (digits_text l) ≡ false = sym (digits_are l c.bad_digits.ensures c.digits-text.ensures) ∙ c.if-bad_digits.false in
+    let v = c.value_of.ensures ∙ ap (λ (s : List ℕ). value_of (take read_limit s)) c.digits-text.ensures ∙ ap value_of (few_digits (digits_text l) g) in
+    ap Ok c.asked_for.ensures
+    ∙ (λ i. asked_by (sym n i) (v i))
+    ∙ sym (all_asks l (short l c.if-line-gt-LINE_LIMIT.false) (formed l c.in_form-formed.ensures c.if-not-formed.false) (ap unknown_name n) g)

@@ -4,10 +4,10 @@ use native.Mathlib.Omega.{arith}
 use mir.Syntax.{w64}
 use mir.Val.{Fits}
 use borrow.Author.Rules.{rules}
+use Rattle.std.specs.Prelude.{Some, None}
 use Rattle.text.specs.Buffer.{buffer}
 use Rattle.text.proofs.BufferLaws.{put_place}
 use Rattle.text.proofs.DecimalLaws.{decimal_places}
-use Rattle.lines.specs.declared.Out.TheVariants.{Value, Z}
 use Rattle.lines.proofs.PrintLaws.{field_put}
 use Rattle.codec.proofs.print.put_field.Goals as goal
 
@@ -17,19 +17,19 @@ put_byte-requires c = omega (arith, put_place (buffer c.args.into.now c.args.at)
 pub returns-in_default : goal.returns-in_default
 returns-in_default c =
     let a = c.args in
-    field_put (buffer a.into.now a.at) a.word.now a.out Z c.in_default.is (omega arith)
+    field_put (buffer a.into.now a.at) a.word.now a.out None c.in_default.is (omega arith)
     c.put-a.ensures c.put_byte.ensures
 
 pub put_decimal-requires : goal.put_decimal-requires
 put_decimal-requires c =
-    let n = c.in-Value.n in
+    let n = c.in-Some.n in
     let f : Fits w64 n = search rules in
     omega (arith, put_place (buffer c.args.into.now c.args.at) c.args.word.now c.put-a.ensures, decimal_places 19 n (omega arith))
 
 pub returns : goal.returns
 returns c =
     let a = c.args in
-    let n = c.in-Value.n in
+    let n = c.in-Some.n in
     let f : Fits w64 n = search rules in
-    field_put (buffer a.into.now a.at) a.word.now a.out (Value n) c.in-Value.is (decimal_places 19 n (omega arith))
+    field_put (buffer a.into.now a.at) a.word.now a.out (Some n) c.in-Some.is (decimal_places 19 n (omega arith))
     c.put-a.ensures c.put_decimal.ensures

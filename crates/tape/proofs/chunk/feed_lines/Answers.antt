@@ -3,8 +3,7 @@
 use native.Mathlib.Omega.{arith}
 use mathlib.Core.Path.{refl, ap, ◌∙◌}
 use mathlib.Core.List.{◌++◌}
-use Prim.Native.Nat.{◌-◌}
-use lib.ListN.{length, take}
+use lib.ListN.{take}
 use Rattle.text.specs.Buffer.{buffer}
 use Rattle.base.specs.Words.{over}
 use Rattle.answers.specs.Answer.{line_answer, held_by, setup_in}
@@ -12,7 +11,7 @@ use Rattle.answers.proofs.AnswerLaws.{shown_held, shown_written}
 use Rattle.answers.proofs.HeldLaws.{onward_start, onward_line}
 use Rattle.tape.specs.declared.Feed.{Feed}
 use Rattle.tape.specs.Tape.{head, state, loan, held_in, given_by}
-use Rattle.tape.proofs.TapeLaws.{sofar_start, sofar_done, turn_stop, turn_line, stops, goes, tape_facts, tape_sound, lent_after, kept_same, given}
+use Rattle.tape.proofs.TapeLaws.{sofar_start, sofar_done, turn_stop, turn_line, stops, tape_facts, tape_sound, lent_after, kept_same, given}
 use Rattle.tape.proofs.TurnLaws.{piece_in, next_in, headed_by, short}
 use Rattle.tape.proofs.chunk.feed_lines.Goals as goal
 

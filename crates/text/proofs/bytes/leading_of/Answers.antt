@@ -1,6 +1,5 @@
 -- `text::bytes::leading_of`: those passed and those that lead what is left are those that lead.
 -- Assumes nothing.
-use borrow.Author.Tests.{not-true, not-false}
 use native.Mathlib.Omega.{arith}
 use mathlib.Core.Path.{sym, ◌∙◌}
 use Rattle.text.specs.Bytes.{of_kind}
