@@ -74,6 +74,11 @@ on_more l l' l'' f g s bytes h =
     let q = g s (bytes ++ p.0) p.1 in
     (p.0 ++ q.0, subst (HasFed s l'') (append_assoc bytes p.0 q.0) q.1)
 
+-- a read behind others
+pub read_behind :
+    (l l' l'' : Loan) (out out' input : List ℕ) (put : ℕ) (more : Bool) → FedOn l l' → FeedsRead l' out input l'' out' put more → FedOn l l''
+read_behind l l' l'' out out' input put more f r = on_more l l' l'' f (read_on_lem l' l'' out out' input put more r)
+
 pub on_fed : (l l' : Loan) → IsFed l → FedOn l l' → IsFed l'
 on_fed l l' i f =
     let p = f i.0 i.1.0 i.1.1 in

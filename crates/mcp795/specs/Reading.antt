@@ -1,7 +1,7 @@
 -- What the program's functions promise of a tape: the state that the bytes fed lead to, and that the answers to a piece of it, whole and in their order, are
 -- the first bytes of the output when that is written. No contract can say what is read from a descriptor or written to one.
 -- Assumes nothing.
-use Rattle.std.specs.Prelude.{ℕ, ◌≡◌, Bool, true, false, List, ◌++◌, ◌⊎◌, length, take}
+use Rattle.std.specs.Prelude.{ℕ, ◌≡◌, Bool, true, false, List, ◌++◌, ◌⊎◌, length, take, Result, Ok, Err}
 use Rattle.record.specs.declared.Device.{Device}
 use Rattle.record.specs.Part.{size_of, id_size}
 use Rattle.record.specs.World.{world}
@@ -10,6 +10,8 @@ use Rattle.answers.specs.Answer.{Setup, setup}
 use Rattle.tape.specs.declared.Tape.{Tape}
 use Rattle.tape.specs.Tape.{fed, Loan, loan, state_in, finish_into, resumes}
 use Rattle.feeding.specs.Begin.{HasFed}
+use Rattle.mcp795.specs.declared.one_tape.Put.{Put}
+use Rattle.mcp795.specs.declared.one_tape.Put.TheVariants.{More, Last}
 
 -- what is lent holds the state that some bytes of a tape lead to, whatever setup it began with
 abbrev pub IsFed : Loan → Type 0
@@ -43,3 +45,14 @@ RunsFrom part d ee id t ee' id' =
 -- R11. Something has been fed behind what was fed before: the setup that the tape began with is the same.
 abbrev pub FedOn : Loan → Loan → Type 0
 FedOn l l' = (s : Setup) (bytes : List ℕ) → HasFed s l bytes → (piece : List ℕ) × HasFed s l' (bytes ++ piece)
+
+-- what a read gave, in these words: how many bytes of the output are answers, and whether to read on; none, and not to, after a failure
+abbrev pub put_by : {E : Type 0} → Result Put E → ℕ
+put_by (Ok (More n)) = n
+put_by (Ok (Last n)) = n
+put_by (Err _) = 0
+
+abbrev pub more_after : {E : Type 0} → Result Put E → Bool
+more_after (Ok (More _)) = true
+more_after (Ok (Last _)) = false
+more_after (Err _) = false

@@ -1,24 +1,11 @@
-// A small file, read whole, or put in the place of an old one. Each function answers whether it succeeded, and has told what failed.
-ghost use Rattle.std.specs.Prelude.{◌≡◌, ◌≤◌, length};
+// A small file, read whole, or put in the place of an old one. What fails is told.
+ghost use Rattle.std.specs.Prelude.{◌≤◌, length};
 
+use crate::bounded::Bounded;
+use crate::tell::{Reason, Stop, tell, tell_error};
 use std::fs::{File, OpenOptions};
 use std::io::{ErrorKind, Read, Write};
 use std::{fs, io, str};
-use text::{buffer, bytes};
-
-// What was read: whether it was read to its end or to the end of the room, and how many bytes.
-#[derive(Clone, Copy)]
-pub struct Got {
-    pub good: bool,
-    pub length: usize,
-}
-
-// A file that was made beside another, or why there is none, and the length of its path.
-#[derive(Drop)]
-struct Made {
-    file: io::Result<File>,
-    length: usize,
-}
 
 // The longest name that is taken from an argument, and room for what is put behind it.
 pub const NAME_ROOM: usize = 4096;
@@ -31,16 +18,20 @@ const DIGITS: u8 = 10;
 // The number of the system's error for bytes that are no text.
 const EILSEQ: i32 = 84;
 
+// A file that was made beside another, and its path.
+#[derive(Drop)]
+struct Beside {
+    file: File,
+    path: Bounded<PATH_ROOM>,
+}
+
 // A name as the library takes one: as text.
 fn path(name: &[u8]) -> io::Result<&str> {
-    match str::from_utf8(name) {
-        Ok(text) => Ok(text),
-        Err(_) => Err(io::Error::from_raw_os_error(EILSEQ)),
-    }
+    str::from_utf8(name).map_err(|_| io::Error::from_raw_os_error(EILSEQ))
 }
 
 // Opens a file to be read.
-pub fn open_read(rt: HostRuntime, name: &[u8]) -> io::Result<File> {
+pub(crate) fn open_read(rt: HostRuntime, name: &[u8]) -> io::Result<File> {
     File::open(&rt, path(name)?)
 }
 
@@ -76,97 +67,63 @@ fn read_full(file: &mut File, text: &mut [u8]) -> usize
     let mut done: usize = 0;
     while done < text.len() {
         match file.read(&mut text[done..]) {
-            Ok(n) => {
-                if n == 0 {
-                    return done;
-                }
-                done += n;
-            }
-            Err(_) => return done,
+            Ok(0) | Err(_) => break,
+            Ok(n) => done += n,
         }
     }
     done
 }
 
-// Whether a file has no more to read. `read_full` does not tell a failure from the end: a read that follows it does.
-fn at_end(rt: HostRuntime, file: &mut File, name: &[u8]) -> bool {
+// That a file has no more to read. `read_full` does not tell a failure from the end: a read that follows it does.
+fn check_end(file: &mut File) -> Result<(), Reason> {
     let mut more = [0u8; 1];
     match file.read(&mut more) {
-        Ok(n) => {
-            if n == 0 {
-                return true;
+        Ok(0) => Ok(()),
+        Ok(_) => Err(Reason::LongerFile),
+        Err(error) => Err(Reason::System(error)),
+    }
+}
+
+// The first bytes of a file, as many as there is room for, where it can be read to its end or to the end of the room.
+fn try_read<const N: usize>(rt: HostRuntime, name: &[u8]) -> Result<Bounded<N>, Reason> {
+    let mut file = open_read(rt, name).map_err(Reason::System)?;
+    let mut room = [0u8; N];
+    let length = read_full(&mut file, &mut room);
+    if length < N {
+        check_end(&mut file)?;
+    }
+    Ok(Bounded::first(room, length))
+}
+
+// The same; what fails is told.
+pub(crate) fn read<const N: usize>(rt: HostRuntime, name: &[u8]) -> Result<Bounded<N>, Stop> {
+    try_read(rt, name).map_err(|why| tell(rt, name, &why))
+}
+
+// The path of a file beside another: its name with `.new` and a digit behind it.
+fn path_beside(name: &[u8], digit: u8) -> Bounded<PATH_ROOM> {
+    let mut path = Bounded::new();
+    path.extend(name);
+    path.extend(b".new");
+    path.push(b'0' + digit % DIGITS);
+    path
+}
+
+// Makes a file beside another, with the first digit whose name is free.
+fn create_beside(rt: HostRuntime, name: &[u8]) -> Result<Beside, Stop> {
+    for digit in 0..DIGITS {
+        let path = path_beside(name, digit);
+        match create(rt, path.as_slice()) {
+            Ok(file) => return Ok(Beside { file, path }),
+            Err(error) => {
+                let is_taken = error.kind() == ErrorKind::AlreadyExists;
+                if !is_taken | (digit == DIGITS - 1) {
+                    return Err(tell_error(rt, path.as_slice(), error));
+                }
             }
-            crate::tell_text(rt, name, b": it was not read to its end\n");
-            false
-        }
-        Err(error) => {
-            crate::tell(rt, name, &error);
-            false
         }
     }
-}
-
-// The first bytes of a file, as many as there is room for.
-pub fn read(rt: HostRuntime, name: &[u8], text: &mut [u8]) -> Got {
-    match open_read(rt, name) {
-        Ok(file) => {
-            let mut file = file;
-            let n = read_full(&mut file, text);
-            let mut good = true;
-            if n < text.len() {
-                good = at_end(rt, &mut file, name);
-            }
-            Got { good, length: n }
-        }
-        Err(error) => {
-            crate::tell(rt, name, &error);
-            Got {
-                good: false,
-                length: 0,
-            }
-        }
-    }
-}
-
-// Puts the path of a file beside another, its name with `.new` and a digit behind it, and answers its length.
-fn put_beside(name: &[u8], digit: u8, path: &mut [u8]) -> usize
-    requires { length path.old ≡ 4104 }
-{
-    let n = buffer::put(bytes::first(name, NAME_ROOM), path, 0);
-    let m = buffer::put(b".new", path, n);
-    buffer::put_byte(b'0' + digit % DIGITS, path, m)
-}
-
-// Makes the file beside another that has this digit.
-fn try_beside(rt: HostRuntime, name: &[u8], digit: u8, path: &mut [u8]) -> Made
-    requires { length path.old ≡ 4104 }
-{
-    let length = put_beside(name, digit, path);
-    let file = create(rt, bytes::first(path, length));
-    Made { file, length }
-}
-
-// Whether there was no file made because its name is taken.
-fn is_taken(made: &Made) -> bool {
-    match &made.file {
-        Ok(_) => false,
-        Err(error) => error.kind() == ErrorKind::AlreadyExists,
-    }
-}
-
-// Makes a file beside another, with the first digit whose name is free. Its path is put into the array that is lent.
-fn create_beside(rt: HostRuntime, name: &[u8], path: &mut [u8]) -> Made
-    requires { length path.old ≡ 4104 }
-{
-    let mut digit: u8 = 0;
-    while digit < DIGITS - 1 {
-        let made = try_beside(rt, name, digit, path);
-        if !is_taken(&made) {
-            return made;
-        }
-        digit += 1;
-    }
-    try_beside(rt, name, digit, path)
+    Err(Stop::Told)
 }
 
 // Writes a text to a file until it has reached its device.
@@ -176,86 +133,44 @@ fn write_through(file: &mut File, text: &[u8]) -> io::Result<()> {
 }
 
 // Writes a text to a file that was just made, until it has reached its device, and closes it.
-fn fill(rt: HostRuntime, file: File, path: &[u8], text: &[u8]) -> bool {
-    let mut file = file;
-    match write_through(&mut file, text) {
-        Ok(()) => true,
-        Err(error) => {
-            crate::tell(rt, path, &error);
-            false
-        }
-    }
-}
-
-// Puts a text in the place of a file: into a new one beside it, which then takes its name. Whatever fails, the old file stays as it was.
-pub fn replace(rt: HostRuntime, name: &[u8], text: &[u8]) -> bool {
-    let mut path = [0u8; PATH_ROOM];
-    let made = create_beside(rt, name, &mut path);
-    let beside = bytes::first(&path, made.length);
-    match made.file {
-        Ok(file) => {
-            if !fill(rt, file, beside, text) {
-                unlink(rt, beside);
-                return false;
-            }
-            take_name(rt, beside, name)
-        }
-        Err(error) => {
-            crate::tell(rt, beside, &error);
-            false
-        }
-    }
+fn fill(rt: HostRuntime, mut file: File, path: &[u8], text: &[u8]) -> Result<(), Stop> {
+    write_through(&mut file, text).map_err(|error| tell_error(rt, path, error))
 }
 
 // Gives a file the name of another, which is gone then.
-fn take_name(rt: HostRuntime, beside: &[u8], name: &[u8]) -> bool {
-    match rename(rt, beside, name) {
-        Ok(()) => true,
-        Err(error) => {
-            crate::tell(rt, name, &error);
-            unlink(rt, beside);
-            false
-        }
-    }
+fn take_name(rt: HostRuntime, beside: &[u8], name: &[u8]) -> Result<(), Stop> {
+    rename(rt, beside, name).map_err(|error| tell_error(rt, name, error))
 }
 
-// Whether there is no file of this name, or one that can be written and is no device, directory or pipe.
-fn is_replaceable(rt: HostRuntime, name: &[u8]) -> bool {
+// Puts a text in the place of a file: into a new one beside it, which then takes its name. Whatever fails, the old file stays as it was.
+pub(crate) fn replace(rt: HostRuntime, name: &[u8], text: &[u8]) -> Result<(), Stop> {
+    let Beside { file, path } = create_beside(rt, name)?;
+    let beside = path.as_slice();
+    let replaced = fill(rt, file, beside, text).and_then(|()| take_name(rt, beside, name));
+    if replaced.is_err() {
+        unlink(rt, beside);
+    }
+    replaced
+}
+
+// That there is no file of this name, or one that can be written and is no device, directory or pipe.
+fn check_replaceable(rt: HostRuntime, name: &[u8]) -> io::Result<()> {
     match open_update(rt, name) {
-        Ok(file) => match file.sync_all() {
-            Ok(()) => true,
-            Err(error) => {
-                crate::tell(rt, name, &error);
-                false
-            }
-        },
+        Ok(file) => file.sync_all(),
         Err(error) => {
             if error.kind() == ErrorKind::NotFound {
-                return true;
+                return Ok(());
             }
-            crate::tell(rt, name, &error);
-            false
+            Err(error)
         }
     }
 }
 
-// Whether a file can be replaced, as far as can be seen before: one can be made beside it.
-pub fn can_replace(rt: HostRuntime, name: &[u8]) -> bool {
-    if !is_replaceable(rt, name) {
-        return false;
-    }
-    let mut path = [0u8; PATH_ROOM];
-    let made = create_beside(rt, name, &mut path);
-    let beside = bytes::first(&path, made.length);
-    match made.file {
-        Ok(file) => {
-            drop(file);
-            unlink(rt, beside);
-            true
-        }
-        Err(error) => {
-            crate::tell(rt, beside, &error);
-            false
-        }
-    }
+// That a file can be replaced, as far as can be seen before: one can be made beside it.
+pub(crate) fn check(rt: HostRuntime, name: &[u8]) -> Result<(), Stop> {
+    check_replaceable(rt, name).map_err(|error| tell_error(rt, name, error))?;
+    let Beside { file, path } = create_beside(rt, name)?;
+    drop(file);
+    unlink(rt, path.as_slice());
+    Ok(())
 }

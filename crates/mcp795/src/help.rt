@@ -2,9 +2,7 @@
 // output took it.
 use std::io;
 
-fn print_use(rt: HostRuntime) -> io::Result<()> {
-    rt.write_all(
-        b"Use: mcp795 [--load FILE] [--save FILE] [TAPE...]
+const USE: &str = "Use: mcp795 [--load FILE] [--save FILE] [TAPE...]
 
 Answers each tape as an MCP795XX clock chip would. A TAPE is a file, or - for
 standard input. With no TAPE, standard input is the tape. Each tape starts
@@ -19,13 +17,9 @@ without a part.
 Of the last options but -- the first is obeyed, wherever it stands before --,
 and no tape is answered. Where - is named twice, the second gets what is left of
 the input.
-",
-    )
-}
+";
 
-fn print_files(rt: HostRuntime) -> io::Result<()> {
-    rt.write_all(
-        b"
+const FILES: &str = "
 With --load or --save there is one tape at most. A tape that starts with a saved
 chip has its part: every line that names one is refused. A FILE that is no saved
 chip is refused by 8, with its first bad line, and the tape is not answered.
@@ -34,13 +28,9 @@ A chip is saved once its tape was read and answered to its end. It is written
 into a new file, FILE.new0 or the next free digit, which then takes FILE's name.
 Whatever fails, the old FILE stays as it was. That FILE can be replaced is tried
 before the tape is answered.
-",
-    )
-}
+";
 
-fn print_form(rt: HostRuntime) -> io::Result<()> {
-    rt.write_all(
-        b"
+const FORM: &str = "
 A tape has a line for each act:
 
     op=NAME arg=N
@@ -48,13 +38,9 @@ A tape has a line for each act:
 with one blank, nothing after N, and at most 64 characters. N has 1 to 8 digits
 and no needless zero. The first line names the part. A line ends at a newline;
 a carriage return is a character like any other, and makes its line bad.
-",
-    )
-}
+";
 
-fn print_acts(rt: HostRuntime) -> io::Result<()> {
-    rt.write_all(
-        b"
+const ACTS: &str = "
     NAME    N              what happens
     part    1 to 4         a fresh chip: 1 W 1 Kbit, 2 W 2 Kbit, 3 B 1 Kbit,
                            4 B 2 Kbit; once, before all else
@@ -70,13 +56,9 @@ fn print_acts(rt: HostRuntime) -> io::Result<()> {
     up      0              power comes back
     evls    0 or 1         the level of EVLS, the low-speed event input
     evhs    0 or 1         the level of EVHS, the high-speed event input
-",
-    )
-}
+";
 
-fn print_answers(rt: HostRuntime) -> io::Result<()> {
-    rt.write_all(
-        b"
+const ANSWERS: &str = "
 Each line gives one answer, written before the program waits for more input:
 
     no=R out=V irq=L wdo=L
@@ -87,13 +69,9 @@ Each line gives one answer, written before the program waits for more input:
        the ticks that a wait used; how many bytes a cut stored; for a bad line
        the column that is to blame, from 1, or 0; z: none
     L  the level of the line after the act, 0 or 1
-",
-    )
-}
+";
 
-fn print_refusals(rt: HostRuntime) -> io::Result<()> {
-    rt.write_all(
-        b"
+const REFUSALS: &str = "
     R  refused because
     1  select, and a frame is open already
     2  byte or end, and no frame is open
@@ -117,13 +95,9 @@ fn print_refusals(rt: HostRuntime) -> io::Result<()> {
 
 Of several reasons the first in this order is given: 71, 72, 73, 75, 74, 3 for
 the part, 4, 6, 3, 5, then 1 or 2.
-",
-    )
-}
+";
 
-fn print_problems(rt: HostRuntime) -> io::Result<()> {
-    rt.write_all(
-        b"
+const PROBLEMS: &str = "
 What cannot be read, written or understood is told on standard error, a line for
 each:
 
@@ -137,18 +111,16 @@ The exit status of mcp795 is 0, and 141 where nobody reads its output any more.
 That of ./run, the script that starts it, is 1 where anything was told or the
 program could not be built, 141 as well where nobody reads, and else 0; it is
 128 and the signal's number where a signal ended the program.
-",
-    )
-}
+";
+
+// What --help tells, piece by piece.
+const PIECES: [&str; 7] = [USE, FILES, FORM, ACTS, ANSWERS, REFUSALS, PROBLEMS];
 
 pub fn print(rt: HostRuntime) -> io::Result<()> {
-    print_use(rt)?;
-    print_files(rt)?;
-    print_form(rt)?;
-    print_acts(rt)?;
-    print_answers(rt)?;
-    print_refusals(rt)?;
-    print_problems(rt)
+    for piece in PIECES {
+        rt.write_all(piece.as_bytes())?;
+    }
+    Ok(())
 }
 
 // The version of this copy, and the kit as `rt version` names it: .ci/run compares the two.
