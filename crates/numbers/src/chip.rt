@@ -10,7 +10,8 @@ ghost use Rattle.form.specs.Facts.{BytesFrom, RecordFacts, EventFacts};
 ghost use Rattle.numbers.specs.Tables.{number_limit};
 
 use events::Events;
-use record::{Counters, Cycle, Device, Frame, Guard, Load, Stage, Target};
+use record::numbered::Numbered;
+use record::{Counters, Cycle, Device, Frame, Guard, Load, Lock, Stage, Target};
 
 // The first n numbers of a list; all of them where there are fewer.
 pub fn first(list: &[u64], n: usize) -> &[u64]
@@ -28,86 +29,84 @@ pub fn take_bytes(numbers: &[u64], from: usize, into: &mut [u8])
     requires bytes_from { BytesFrom numbers.now from (length into.old) }
     ensures { into.new ≡ take (length into.old) (drop from numbers.now) }
 {
-    let mut i: usize = 0;
-    while i < into.len() {
+    for i in 0..into.len() {
         into[i] = numbers[from + i] as u8;
-        i += 1;
     }
 }
 
-fn counters_of(numbers: &[u64]) -> Counters
-    requires { RecordFacts numbers.now }
-    ensures { result ≡ (device_of numbers.now).counters }
-{
-    Counters {
-        divider: numbers[97] as u16,
-        startup: numbers[98] as u8,
-        watchdog: numbers[99] as u32,
-        delay: numbers[100] as u32,
-        pulse: numbers[101] as u16,
+// A list that begins with the numbers of a record.
+#[derive(Drop)]
+struct RecordNumbers<'a> {
+    list: &'a [u64],
+    ghost facts: { RecordFacts list.now },
+}
+
+impl RecordNumbers<'_> {
+    fn bytes<const N: usize>(&self, from: usize) -> [u8; N]
+        requires into_in_bounds { from + N ≤ length self.now.list.now }
+        requires bytes_from { BytesFrom self.now.list.now from N }
+        ensures { result ≡ take N (drop from self.now.list.now) }
+    {
+        let mut bytes = [0u8; N];
+        take_bytes(self.list, from, &mut bytes);
+        bytes
     }
-}
 
-fn guard_of(numbers: &[u64]) -> Guard
-    requires { RecordFacts numbers.now }
-    ensures { result ≡ (device_of numbers.now).guard }
-{
-    let protection = record::number::protection_of(numbers[105] as u8);
-    let lock = crate::lock_of(numbers[106] as u8);
-    Guard {
-        wel: numbers[104] == 1,
-        protection,
-        lock,
+    fn counters(&self) -> Counters
+        ensures { result ≡ (device_of self.now.list.now).counters }
+    {
+        let list = self.list;
+        Counters {
+            divider: list[97] as u16,
+            startup: list[98] as u8,
+            watchdog: list[99] as u32,
+            delay: list[100] as u32,
+            pulse: list[101] as u16,
+        }
     }
-}
 
-fn stage_at(numbers: &[u64]) -> Stage
-    requires { RecordFacts numbers.now }
-    ensures { result ≡ stage_in numbers.now }
-{
-    crate::stage_of(numbers[107] as u8, numbers[108] as u8, numbers[109] as u8)
-}
-
-fn load_of(numbers: &[u64]) -> Load
-    requires { RecordFacts numbers.now }
-    ensures { result ≡ (device_of numbers.now).load }
-{
-    let mut bytes = [0u8; 8];
-    take_bytes(numbers, 111, &mut bytes);
-    Load {
-        offsets: numbers[110] as u8,
-        bytes,
-        next: numbers[119] as u8,
+    fn guard(&self) -> Guard
+        ensures { result ≡ (device_of self.now.list.now).guard }
+    {
+        let list = self.list;
+        Guard {
+            wel: list[104] == 1,
+            protection: record::number::protection_of(list[105] as u8),
+            lock: Lock::from(list[106] as u8),
+        }
     }
-}
 
-fn cycle_of(numbers: &[u64]) -> Cycle
-    requires { RecordFacts numbers.now }
-    ensures { result ≡ (device_of numbers.now).cycle }
-{
-    let target = crate::target_of(numbers[120] as u8, numbers[121] as u8);
-    Cycle {
-        target,
-        left: numbers[122] as u8,
+    fn stage(&self) -> Stage
+        ensures { result ≡ stage_in self.now.list.now }
+    {
+        let list = self.list;
+        Stage::from(Numbered {
+            kind: list[107] as u8,
+            which: list[108] as u8,
+            value: list[109] as u8,
+        })
     }
-}
 
-fn registers_of(numbers: &[u64]) -> [u8; 32]
-    requires { RecordFacts numbers.now }
-    ensures { result ≡ take 32 (drop 1 numbers.now) }
-{
-    let mut regs = [0u8; 32];
-    take_bytes(numbers, 1, &mut regs);
-    regs
-}
+    fn load(&self) -> Load
+        ensures { result ≡ (device_of self.now.list.now).load }
+    {
+        let list = self.list;
+        Load {
+            offsets: list[110] as u8,
+            bytes: self.bytes(111),
+            next: list[119] as u8,
+        }
+    }
 
-fn sram_of(numbers: &[u64]) -> [u8; 64]
-    requires { RecordFacts numbers.now }
-    ensures { result ≡ take 64 (drop 33 numbers.now) }
-{
-    let mut sram = [0u8; 64];
-    take_bytes(numbers, 33, &mut sram);
-    sram
+    fn cycle(&self) -> Cycle
+        ensures { result ≡ (device_of self.now.list.now).cycle }
+    {
+        let list = self.list;
+        Cycle {
+            target: Target::from((list[120] as u8, list[121] as u8)),
+            left: list[122] as u8,
+        }
+    }
 }
 
 // The event inputs, from a place on.
@@ -132,32 +131,21 @@ pub fn device_of(numbers: &[u64], from: usize) -> Device
     requires from_in_bounds { from + 5 ≤ length numbers.now }
     ensures { result ≡ device_from from numbers.now }
 {
-    let regs = registers_of(numbers);
-    let sram = sram_of(numbers);
-    let counters = counters_of(numbers);
-    let guard = guard_of(numbers);
-    let stage = stage_at(numbers);
-    let load = load_of(numbers);
-    let cycle = cycle_of(numbers);
-    let events = events_of(numbers, from);
+    let begun = RecordNumbers { list: numbers };
     Device {
-        regs,
-        sram,
-        counters,
+        regs: begun.bytes(1),
+        sram: begun.bytes(33),
+        counters: begun.counters(),
         power: numbers[102] == 1,
         mark: numbers[103] == 1,
-        guard,
-        frame: Frame { stage },
-        load,
-        cycle,
-        events,
+        guard: begun.guard(),
+        frame: Frame {
+            stage: begun.stage(),
+        },
+        load: begun.load(),
+        cycle: begun.cycle(),
+        events: events_of(numbers, from),
     }
-}
-
-fn flag_of(b: bool) -> u64
-    ensures { result ≡ flag b }
-{
-    if b { 1 } else { 0 }
 }
 
 // The numbers between SRAM and page load, and after it.
@@ -167,38 +155,34 @@ fn head_numbers(d: Device) -> [u64; 14]
 {
     let c = d.counters;
     let guard = d.guard;
-    let frame = d.frame;
-    let load = d.load;
-    let protection = guard.protection;
-    let lock = guard.lock;
-    let stage = frame.stage;
+    let stage = Numbered::from(d.frame.stage);
     [
-        c.divider as u64,
-        c.startup as u64,
-        c.watchdog as u64,
-        c.delay as u64,
-        c.pulse as u64,
-        flag_of(d.power),
-        flag_of(d.mark),
-        flag_of(guard.wel),
-        record::number::protection_number(protection) as u64,
-        crate::lock_number(lock) as u64,
-        crate::stage_kind(stage) as u64,
-        crate::stage_case(stage) as u64,
-        crate::stage_value(stage) as u64,
-        load.offsets as u64,
+        u64::from(c.divider),
+        u64::from(c.startup),
+        u64::from(c.watchdog),
+        u64::from(c.delay),
+        u64::from(c.pulse),
+        u64::from(d.power),
+        u64::from(d.mark),
+        u64::from(guard.wel),
+        u64::from(record::number::protection_number(guard.protection)),
+        u64::from(u8::from(guard.lock)),
+        u64::from(stage.kind),
+        u64::from(stage.which),
+        u64::from(stage.value),
+        u64::from(d.load.offsets),
     ]
 }
 
 fn tail_numbers(load: Load, cycle: Cycle) -> [u64; 4]
     ensures { result ≡ tail_numbers load cycle }
 {
-    let target = cycle.target;
+    let (kind, value) = cycle.target.into();
     [
-        load.next as u64,
-        crate::target_kind(target) as u64,
-        crate::target_value(target) as u64,
-        cycle.left as u64,
+        u64::from(load.next),
+        u64::from(kind),
+        u64::from(value),
+        u64::from(cycle.left),
     ]
 }
 
@@ -206,11 +190,11 @@ fn event_numbers(e: Events) -> [u64; 5]
     ensures { result ≡ event_numbers e }
 {
     [
-        e.door as u64,
-        e.drum as u64,
-        e.edges as u64,
-        e.since as u64,
-        e.debounce as u64,
+        u64::from(e.door),
+        u64::from(e.drum),
+        u64::from(e.edges),
+        u64::from(e.since),
+        u64::from(e.debounce),
     ]
 }
 
@@ -219,24 +203,20 @@ fn put_numbers(from: &[u64], into: &mut [u64], at: usize) -> usize
     requires { at + length from.now ≤ length into.old }
     ensures { buffer into.new result ≡ append (buffer into.old at) from.now }
 {
-    let mut i: usize = 0;
-    while i < from.len() {
+    for i in 0..from.len() {
         into[at + i] = from[i];
-        i += 1;
     }
-    at + i
+    at + from.len()
 }
 
 fn put_bytes(from: &[u8], into: &mut [u64], at: usize) -> usize
     requires { at + length from.now ≤ length into.old }
     ensures { buffer into.new result ≡ append (buffer into.old at) from.now }
 {
-    let mut i: usize = 0;
-    while i < from.len() {
-        into[at + i] = from[i] as u64;
-        i += 1;
+    for i in 0..from.len() {
+        into[at + i] = u64::from(from[i]);
     }
-    at + i
+    at + from.len()
 }
 
 fn put_number(n: u64, into: &mut [u64], at: usize) -> usize

@@ -10,7 +10,8 @@ ghost use Rattle.numbers.specs.declared.table.Row.TheVariants.{Reg};
 ghost use Rattle.numbers.specs.Tables.{row_of};
 
 use detect::control;
-use record::{ClockAddress, part, registers, stages};
+use record::numbered::Numbered;
+use record::{ClockAddress, Stage, part, registers, stages};
 
 // How many numbers a part of 2 Kbit has.
 pub const NUMBERS: usize = 400;
@@ -184,7 +185,11 @@ fn byte_of(n: u64) -> u8
 fn foreign(kind: u64, which: u64) -> bool
     ensures { result ≡ foreign_to_wip (stage_of kind which 0) }
 {
-    let stage = crate::stage_of(byte_of(kind), byte_of(which), 0);
+    let stage = Stage::from(Numbered {
+        kind: byte_of(kind),
+        which: byte_of(which),
+        value: 0,
+    });
     stages::foreign_to_wip(stage)
 }
 

@@ -10,3 +10,4 @@ pub mod Fresh
 pub mod World
 pub mod Stored
 pub mod Scene
+pub mod Numbered

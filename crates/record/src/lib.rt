@@ -12,6 +12,7 @@ pub mod address; // address.rt: how an address is taken and rolls over
 pub mod codes; // codes.rt: instruction codes
 pub mod inputs; // inputs.rt: the event inputs with the byte of 0Bh
 pub mod number; // number.rt: the numbers of the enums' cases
+pub mod numbered; // numbered.rt: the numbers of lock, act, stage and target, and back
 pub mod part; // part.rt: the four parts
 pub mod registers; // registers.rt: the registers' addresses and masks, the limits
 pub mod stages; // stages.rt: what a stage and a cycle's target tell

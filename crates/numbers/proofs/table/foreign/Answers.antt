@@ -5,8 +5,7 @@ use Rattle.numbers.proofs.table.foreign.Goals as goal
 
 pub returns : goal.returns
 returns c =
-    let s = c.stage_of-stage in
     let b = c.byte_of-2 in
     let a = c.byte_of in
     let r = c.args in
-    foreign_by r.kind r.which a.ensures b.ensures s.ensures c.foreign_to_wip.ensures
+    foreign_by r.kind r.which a.ensures b.ensures c.from-stage.ensures c.foreign_to_wip.ensures
