@@ -12,8 +12,9 @@ ghost use Rattle.arrays.specs.Arrays.{part_of, arrays_refusal, drives, driven_by
 
 use events::Events;
 use numbers::table;
+use record::numbered::Numbered;
 use record::registers::POWER_DOWN;
-use record::{Counters, Cycle, Device, Frame, Guard, Load, part, registers};
+use record::{Counters, Cycle, Device, Frame, Guard, Load, Lock, Stage, Target, part, registers};
 use text::buffer;
 
 // Bytes of a state array, numbers of an answer.
@@ -209,10 +210,14 @@ pub fn device_in(state: &[u8]) -> Device
     let sram = sram_in(state);
     let counters = counters_in(state);
     let protection = record::number::protection_of(state[115]);
-    let lock = numbers::lock_of(state[116]);
-    let stage = numbers::stage_of(state[117], state[118], state[119]);
+    let lock = Lock::from(state[116]);
+    let stage = Stage::from(Numbered {
+        kind: state[117],
+        which: state[118],
+        value: state[119],
+    });
     let bytes = load_in(state);
-    let target = numbers::target_of(state[130], state[131]);
+    let target = Target::from((state[130], state[131]));
     let events = events_in(state);
     Device {
         regs,
@@ -260,8 +265,7 @@ fn head_bytes(d: Device) -> [u8; 24]
     let guard = d.guard;
     let protection = guard.protection;
     let lock = guard.lock;
-    let frame = d.frame;
-    let stage = frame.stage;
+    let stage = Numbered::from(d.frame.stage);
     let load = d.load;
     let divider = c.divider as u32;
     let startup = c.startup as u32;
@@ -288,10 +292,10 @@ fn head_bytes(d: Device) -> [u8; 24]
         flag_of(d.mark),
         flag_of(guard.wel),
         record::number::protection_number(protection),
-        numbers::lock_number(lock),
-        numbers::stage_kind(stage),
-        numbers::stage_case(stage),
-        numbers::stage_value(stage),
+        u8::from(lock),
+        stage.kind,
+        stage.which,
+        stage.value,
         load.offsets,
     ]
 }
@@ -299,13 +303,13 @@ fn head_bytes(d: Device) -> [u8; 24]
 fn tail_bytes(load: Load, cycle: Cycle, e: Events) -> [u8; 13]
     ensures { result ≡ tail_numbers load cycle ++ event_bytes e }
 {
-    let target = cycle.target;
+    let (kind, value) = cycle.target.into();
     let since = e.since as u32;
     let debounce = e.debounce as u32;
     [
         load.next,
-        numbers::target_kind(target),
-        numbers::target_value(target),
+        kind,
+        value,
         cycle.left,
         e.door,
         e.drum,

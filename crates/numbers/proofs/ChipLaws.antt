@@ -24,7 +24,7 @@ use Rattle.form.specs.Table.{part_in, register_in, power_in, stage_in, case_limi
 use Rattle.record.specs.declared.Device.{Device}
 use Rattle.record.specs.World.{world}
 use Rattle.form.specs.Chip.{head_numbers, tail_numbers, record_numbers, event_numbers, numbers_of}
-use Rattle.form.specs.Facts.{BytesFrom, RecordFacts, EventFacts}
+use Rattle.form.specs.Facts.{RecordFacts, EventFacts}
 use Rattle.form.proofs.EventLaws.{number_most, debounce_most}
 use Rattle.numbers.proofs.TableLaws.{case_limit_past}
 
@@ -172,22 +172,3 @@ numbers_joined part d ee id =
         ∙ append_assoc (r ++ s) h ((l ++ t) ++ m)
         ∙ append_assoc r s (h ++ ((l ++ t) ++ m))
         ∙ ap (λ (x : List ℕ). r ++ (s ++ (h ++ x))) (append_assoc l t m)
-
--- bytes of the record
-pub registers_there : (ns : List ℕ) → RecordFacts ns → (1 + 32 ≤ length ns) × BytesFrom ns 1 32
-registers_there ns f = (far_enough f.reach, f.reg_bytes)
-  where
-    far_enough : {n : ℕ} → 123 ≤ n → 33 ≤ n
-    far_enough h = omega (arith, h)
-
-pub sram_there : (ns : List ℕ) → RecordFacts ns → (33 + 64 ≤ length ns) × BytesFrom ns 33 64
-sram_there ns f = (far_enough f.reach, f.sram)
-  where
-    far_enough : {n : ℕ} → 123 ≤ n → 97 ≤ n
-    far_enough h = omega (arith, h)
-
-pub load_there : (ns : List ℕ) → RecordFacts ns → (111 + 8 ≤ length ns) × BytesFrom ns 111 8
-load_there ns f = (far_enough f.reach, f.load)
-  where
-    far_enough : {n : ℕ} → 123 ≤ n → 119 ≤ n
-    far_enough h = omega (arith, h)

@@ -4,7 +4,7 @@ use mathlib.Core.Path.{◌≡◌, refl, sym, ap, ◌∙◌}
 use mathlib.Core.Logic.{◌≢◌, ◌⊎◌, inl, inr}
 use mathlib.Core.Bool.{Bool, true, false, ◌||◌}
 use mathlib.Core.List.{List, [], ◌∷◌}
-use Prim.Native.Nat.{ℕ, ◌/◌, ◌<◌, ◌≤◌}
+use Prim.Native.Nat.{ℕ, zero, suc, ◌/◌, ◌<◌, ◌≤◌}
 use native.Mathlib.Omega.{arith}
 use borrow.Author.Tests.{ne_eqb, eqb-true, ltb-true, ltb-false}
 use lib.Dec.{ltb, eqb}
@@ -22,7 +22,7 @@ use Rattle.record.specs.declared.Stage.TheVariants.{Reading, Writing, Second}
 use Rattle.record.specs.Numbers.{place_of, pair_of, stage_of}
 use Rattle.record.specs.Part.{size_of}
 use Rattle.record.specs.Stages.{foreign_to_wip}
-use Rattle.form.specs.Table.{rows, part_in, power_in, case_limit, left_by, left_limit, part_row, register_row, sram_row, divider_row, startup_row, watchdog_row, delay_row, pulse_row, power_row, mark_row, wel_row, protection_row, lock_row, stage_row, offsets_row, load_row, next_row, target_row, left_row, eeprom_row, id_row, evls_row, evhs_row, edges_row, since_row, debounce_row}
+use Rattle.form.specs.Table.{rows, part_in, power_in, case_limit, left_by, left_limit, part_row, register_row, sram_row, divider_row, startup_row, watchdog_row, delay_row, pulse_row, power_row, mark_row, wel_row, protection_row, lock_row, stage_row, offsets_row, load_row, next_row, target_row, left_row, eeprom_row, id_row, evls_row, evhs_row, edges_row, since_row, debounce_row, register_good, stage_good, target_good}
 use Rattle.numbers.specs.declared.table.Row.{Row as Name}
 use Rattle.numbers.specs.declared.table.Row.TheVariants.{Part as PartRow, Reg, Sram, Divider, Startup, Watchdog, Delay, Pulse, Power, Mark, Wel, Bp, Lock, Stage as StageRow, Offsets, Load, Next, Target, Left, Ee, Id, Evls, Evhs, Edges, Since, Debounce}
 use Rattle.numbers.specs.Tables.{row_at, row_count, row_place, row_of}
@@ -37,6 +37,11 @@ line_counts = 1 ∷ 32 ∷ 8 ∷ 1 ∷ 1 ∷ 1 ∷ 1 ∷ 1 ∷ 1 ∷ 1 ∷ 1 ∷
 
 abbrev pub lines_by : ℕ → ℕ → ℕ
 lines_by i part = pick (eqb i 19) (size_of part / 8) (get_or line_counts i 0)
+
+-- what a number is less than, where that is one number; 0 where it depends on others.
+abbrev pub limits : List ℕ
+limits =
+    0 ∷ 0 ∷ 256 ∷ 32768 ∷ 0 ∷ 0 ∷ 2097153 ∷ 4097 ∷ 2 ∷ 0 ∷ 2 ∷ 4 ∷ 3 ∷ 0 ∷ 256 ∷ 256 ∷ 8 ∷ 0 ∷ 0 ∷ 256 ∷ 256 ∷ 2 ∷ 2 ∷ 0 ∷ 0 ∷ 0 ∷ []
 
 pub row_width : (i : ℕ) → i < row_count → get_or widths i 0 ≡ (row_at i).width
 unfolding every row_at rows part_row register_row sram_row divider_row startup_row watchdog_row delay_row pulse_row power_row mark_row wel_row protection_row lock_row stage_row offsets_row load_row next_row target_row left_row eeprom_row id_row evls_row evhs_row edges_row since_row debounce_row
@@ -109,6 +114,39 @@ pub row_in : (r : Name) → row_place r < row_count
 row_in Reg = omega arith
 row_in _ = omega arith
 
+-- the rows whose limit is one number
+pub row_limit :
+    (i : ℕ) → i < row_count → i ≢ 0 → i ≢ 1 → i ≢ 4 → i ≢ 5 → i ≢ 9 → i ≢ 13 → i ≢ 17 → i ≢ 18 → i ≢ 23 → i ≢ 24 → i ≢ 25 → (b : List ℕ) (j n : ℕ)
+    → ltb n (get_or limits i 0) ≡ (row_at i).good b j n
+unfolding row_at rows part_row register_row sram_row divider_row startup_row watchdog_row delay_row pulse_row power_row mark_row wel_row protection_row lock_row stage_row offsets_row load_row next_row target_row left_row eeprom_row id_row evls_row evhs_row edges_row since_row debounce_row
+row_limit zero h e0 e1 e4 e5 e9 e13 e17 e18 e23 e24 e25 b j n = absurd (e0 refl)
+row_limit (suc zero) h e0 e1 e4 e5 e9 e13 e17 e18 e23 e24 e25 b j n = absurd (e1 refl)
+row_limit (suc (suc zero)) h e0 e1 e4 e5 e9 e13 e17 e18 e23 e24 e25 b j n = refl
+row_limit (suc (suc (suc zero))) h e0 e1 e4 e5 e9 e13 e17 e18 e23 e24 e25 b j n = refl
+row_limit (suc (suc (suc (suc zero)))) h e0 e1 e4 e5 e9 e13 e17 e18 e23 e24 e25 b j n = absurd (e4 refl)
+row_limit (suc (suc (suc (suc (suc zero))))) h e0 e1 e4 e5 e9 e13 e17 e18 e23 e24 e25 b j n = absurd (e5 refl)
+row_limit (suc (suc (suc (suc (suc (suc zero)))))) h e0 e1 e4 e5 e9 e13 e17 e18 e23 e24 e25 b j n = refl
+row_limit (suc (suc (suc (suc (suc (suc (suc zero))))))) h e0 e1 e4 e5 e9 e13 e17 e18 e23 e24 e25 b j n = refl
+row_limit (suc (suc (suc (suc (suc (suc (suc (suc zero)))))))) h e0 e1 e4 e5 e9 e13 e17 e18 e23 e24 e25 b j n = refl
+row_limit (suc (suc (suc (suc (suc (suc (suc (suc (suc zero))))))))) h e0 e1 e4 e5 e9 e13 e17 e18 e23 e24 e25 b j n = absurd (e9 refl)
+row_limit (suc (suc (suc (suc (suc (suc (suc (suc (suc (suc zero)))))))))) h e0 e1 e4 e5 e9 e13 e17 e18 e23 e24 e25 b j n = refl
+row_limit (suc (suc (suc (suc (suc (suc (suc (suc (suc (suc (suc zero))))))))))) h e0 e1 e4 e5 e9 e13 e17 e18 e23 e24 e25 b j n = refl
+row_limit (suc (suc (suc (suc (suc (suc (suc (suc (suc (suc (suc (suc zero)))))))))))) h e0 e1 e4 e5 e9 e13 e17 e18 e23 e24 e25 b j n = refl
+row_limit (suc (suc (suc (suc (suc (suc (suc (suc (suc (suc (suc (suc (suc zero))))))))))))) h e0 e1 e4 e5 e9 e13 e17 e18 e23 e24 e25 b j n = absurd (e13 refl)
+row_limit (suc (suc (suc (suc (suc (suc (suc (suc (suc (suc (suc (suc (suc (suc zero)))))))))))))) h e0 e1 e4 e5 e9 e13 e17 e18 e23 e24 e25 b j n = refl
+row_limit (suc (suc (suc (suc (suc (suc (suc (suc (suc (suc (suc (suc (suc (suc (suc zero))))))))))))))) h e0 e1 e4 e5 e9 e13 e17 e18 e23 e24 e25 b j n = refl
+row_limit (suc (suc (suc (suc (suc (suc (suc (suc (suc (suc (suc (suc (suc (suc (suc (suc zero)))))))))))))))) h e0 e1 e4 e5 e9 e13 e17 e18 e23 e24 e25 b j n = refl
+row_limit (suc (suc (suc (suc (suc (suc (suc (suc (suc (suc (suc (suc (suc (suc (suc (suc (suc zero))))))))))))))))) h e0 e1 e4 e5 e9 e13 e17 e18 e23 e24 e25 b j n = absurd (e17 refl)
+row_limit (suc (suc (suc (suc (suc (suc (suc (suc (suc (suc (suc (suc (suc (suc (suc (suc (suc (suc zero)))))))))))))))))) h e0 e1 e4 e5 e9 e13 e17 e18 e23 e24 e25 b j n = absurd (e18 refl)
+row_limit (suc (suc (suc (suc (suc (suc (suc (suc (suc (suc (suc (suc (suc (suc (suc (suc (suc (suc (suc zero))))))))))))))))))) h e0 e1 e4 e5 e9 e13 e17 e18 e23 e24 e25 b j n = refl
+row_limit (suc (suc (suc (suc (suc (suc (suc (suc (suc (suc (suc (suc (suc (suc (suc (suc (suc (suc (suc (suc zero)))))))))))))))))))) h e0 e1 e4 e5 e9 e13 e17 e18 e23 e24 e25 b j n = refl
+row_limit (suc (suc (suc (suc (suc (suc (suc (suc (suc (suc (suc (suc (suc (suc (suc (suc (suc (suc (suc (suc (suc zero))))))))))))))))))))) h e0 e1 e4 e5 e9 e13 e17 e18 e23 e24 e25 b j n = refl
+row_limit (suc (suc (suc (suc (suc (suc (suc (suc (suc (suc (suc (suc (suc (suc (suc (suc (suc (suc (suc (suc (suc (suc zero)))))))))))))))))))))) h e0 e1 e4 e5 e9 e13 e17 e18 e23 e24 e25 b j n = refl
+row_limit (suc (suc (suc (suc (suc (suc (suc (suc (suc (suc (suc (suc (suc (suc (suc (suc (suc (suc (suc (suc (suc (suc (suc zero))))))))))))))))))))))) h e0 e1 e4 e5 e9 e13 e17 e18 e23 e24 e25 b j n = absurd (e23 refl)
+row_limit (suc (suc (suc (suc (suc (suc (suc (suc (suc (suc (suc (suc (suc (suc (suc (suc (suc (suc (suc (suc (suc (suc (suc (suc zero)))))))))))))))))))))))) h e0 e1 e4 e5 e9 e13 e17 e18 e23 e24 e25 b j n = absurd (e24 refl)
+row_limit (suc (suc (suc (suc (suc (suc (suc (suc (suc (suc (suc (suc (suc (suc (suc (suc (suc (suc (suc (suc (suc (suc (suc (suc (suc zero))))))))))))))))))))))))) h e0 e1 e4 e5 e9 e13 e17 e18 e23 e24 e25 b j n = absurd (e25 refl)
+row_limit (suc (suc (suc (suc (suc (suc (suc (suc (suc (suc (suc (suc (suc (suc (suc (suc (suc (suc (suc (suc (suc (suc (suc (suc (suc (suc i)))))))))))))))))))))))))) h e0 e1 e4 e5 e9 e13 e17 e18 e23 e24 e25 b j n = absurd (omega arith)
+
 -- Kind and case of a stage as bytes: one that is no byte is no number of theirs, and neither is 255.
 off : (n : ℕ) → ltb n 256 ≡ false → (i : ℕ) → ltb i 256 ≡ true → eqb n i ≡ false
 off n t i h = ne_eqb n i (λ e. absurd (omega (arith, ltb-false n 256 t, ltb-true i 256 h, e)))
@@ -155,3 +193,17 @@ case_limit_past k h = sym (get_or-eq_default (1 ∷ 1 ∷ 1 ∷ 256 ∷ 3 ∷ 3 
 
 pub left_told : (b : List ℕ) → left_by (power_in b) (foreign_to_wip (stage_of (get_or b 107 0) (get_or b 108 0) 0)) ≡ left_limit b
 left_told b = ap (left_by (power_in b)) (value_free (get_or b 108 0) (get_or b 109 0) (get_or b 107 0))
+
+-- the rows whose limit depends on other numbers, place by place
+module _ (i : ℕ) (b : List ℕ) (j n : ℕ) where
+  pub register_good_lem : i ≡ 1 → register_good j n ≡ (row_at i).good b j n
+  unfolding row_at rows register_row
+  register_good_lem e = ap (λ (k : ℕ). (row_at k).good b j n) (sym e)
+
+  pub stage_good_lem : i ≡ 13 → stage_good b j n ≡ (row_at i).good b j n
+  unfolding row_at rows stage_row
+  stage_good_lem e = ap (λ (k : ℕ). (row_at k).good b j n) (sym e)
+
+  pub target_good_lem : i ≡ 17 → target_good b j n ≡ (row_at i).good b j n
+  unfolding row_at rows target_row
+  target_good_lem e = ap (λ (k : ℕ). (row_at k).good b j n) (sym e)

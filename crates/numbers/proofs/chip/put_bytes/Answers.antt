@@ -1,10 +1,9 @@
 -- `numbers::chip::put_bytes`: so far the numbers passed have been put.
 -- Assumes nothing.
 use native.Mathlib.Omega.{arith}
-use mathlib.Core.List.{List}
 use mathlib.Core.Path.{◌≡◌, sym, ap, ◌∙◌}
 use Prim.Native.Nat.{ℕ, ◌+◌}
-use lib.ListN.{length, get_or, set}
+use lib.ListN.{length, set}
 use Rattle.text.specs.Buffer.{buffer}
 use Rattle.text.proofs.BufferLaws.{sets_more, append_all}
 use Rattle.numbers.proofs.chip.put_bytes.Goals as goal
