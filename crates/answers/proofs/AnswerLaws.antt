@@ -1,7 +1,7 @@
 -- Laws of a line's answer: that a refused line changes nothing; as the code shows it: a refused line, a fresh chip, an
 -- act's outcome; and that a tape stays one with which the acts may go on.
 -- Assumes nothing.
-use mathlib.Core.Path.{◌≡◌, refl, sym, ap, ◌∙◌}
+use mathlib.Core.Path.{◌≡◌, refl, sym, ap, subst, ◌∙◌}
 use mathlib.Core.Logic.{◌≢◌}
 use mathlib.Core.Bool.{Bool, true, false, true≢false, ◌||◌, or-true}
 use mathlib.Core.List.{List, ◌++◌}
@@ -9,7 +9,7 @@ use Prim.Native.Nat.{ℕ}
 use native.Mathlib.Omega.{arith}
 use lib.Dec.{eqb}
 use lib.ListN.{length, take, drop, replicate, length-replicate}
-use lib.Seq.{take_all}
+use lib.Seq.{take_all, length-take-le}
 use borrow.Author.Tests.{eqb-true, eq-eqb}
 use Rattle.std.specs.Prelude.{Option, None, Result, Ok, Err}
 use Rattle.base.specs.Words.{over}
@@ -19,8 +19,9 @@ use Rattle.record.specs.declared.Act.{Act}
 use Rattle.record.specs.declared.Act.TheVariants.{Select, Byte, End, Wait, Cut, Up, Set}
 use Rattle.record.specs.declared.Device.{Device}
 use Rattle.record.specs.Part.{is_part, size_of, id_size}
+use Rattle.record.proofs.PartLaws.{size_most}
 use Rattle.record.specs.Fresh.{fresh}
-use Rattle.record.specs.World.{world}
+use Rattle.record.specs.World.{World, world}
 use Rattle.refusals.specs.InRange.{InRange}
 use Rattle.refusals.specs.Refusal.{setup_refusal}
 use Rattle.refusals.proofs.RangeLaws.{in_range_lem, out_of_range_lem, fresh_facts}
@@ -35,7 +36,8 @@ use Rattle.lines.specs.declared.Request.TheVariants.{Part as PartLine, Act as Ac
 use Rattle.text.specs.Buffer.{Buffer, append}
 use Rattle.lines.specs.Request.{request_of}
 use Rattle.lines.specs.Print.{shows_count, out_of}
-use Rattle.answers.specs.Answer.{Setup, setup, no_part, fresh_setup, LineAnswer, answer, outcome_answer, act_answer, request_answer, line_answer, misplaced, RepliesShown, line_of, answer_text, Held, eeprom_bytes, id_bytes, setup_in, holding, Shown, shown_in, ready, line_in}
+use Rattle.answers.specs.Answer.{Setup, setup, no_part, fresh_setup, LineAnswer, answer, outcome_answer, act_answer, request_answer, line_answer, misplaced, RepliesShown, answer_text, Held, eeprom_bytes, id_bytes, setup_in, holding, eeprom_room, Shown, shown_in, line_in}
+use Rattle.answers.specs.Ready.{ready}
 
 -- what is shown of an act without a count: its reply, where it is done, and none, which is a refused act's reply too
 reply_shown : (part : ℕ) (act : Act) (arg : ℕ) (s : Setup) → shows_count act ≡ false
@@ -98,12 +100,6 @@ pub asked_shown :
 unfolding line_answer
 asked_shown line h o r e f = f ∙ ap (λ (y : Result Request Fault). shown_in h o (request_answer y (setup_in h))) (sym e)
 
--- an answer's line as the code puts it
-pub told_shown :
-    (h : Held) (o p : Buffer) (number : ℕ) (out : Option ℕ) → p ≡ append o (line_of number out h.part h.device)
-    → ◌≡◌ {A = Shown} (record { after = h; written = p }) (line_in h o number out)
-told_shown h o p number out e = λ i. record { after = h; written = e i }
-
 -- what an answer leaves held, and what it writes
 pub shown_held : (h : Held) (o : Buffer) (a : LineAnswer) {x : Shown} → x ≡ shown_in h o a → x.after ≡ holding h a.after
 unfolding shown_in
@@ -128,6 +124,10 @@ held_eeprom part e = sym (no 0 (size_of part) e)
 
 held_id : (part : ℕ) → eqb part 0 ≡ false → id_bytes part ≡ id_size
 held_id part e = sym (no 0 id_size e)
+
+-- of the lent bytes those of a part are as many as its size
+pub part_bytes : (k part : ℕ) (ee : List ℕ) → length ee ≡ eeprom_room → k ≡ size_of part → length (take k ee) ≡ size_of part
+part_bytes k part ee l e = length-take-le k ee (omega (arith, l, size_most part, e)) ∙ e
 
 -- the code's fresh chip: the part's own bytes are erased, the EEPROM's others stay
 pub fresh_shown :
@@ -182,7 +182,7 @@ ready_suits part d ee id some r e i =
 abbrev ReadySetup : Setup → Type 0
 ReadySetup s = ready s.part s.chip.device ≡ true
 
-ready_in_range : (part : ℕ) (d : Device) → is_part part ≡ true → InRange part d → ready part d ≡ true
+pub ready_in_range : (part : ℕ) (d : Device) → is_part part ≡ true → InRange part d → ready part d ≡ true
 unfolding ready
 ready_in_range part d p r =
     let s = setup_passes part d (size_of part) id_size (record { known = p; eeprom = refl; ids = refl; ranged = out_of_range_lem part d r }) in
@@ -193,6 +193,12 @@ act_ready act arg s some r =
     let g = setup_passed s.part s.chip.device (size_of s.part) id_size (ready_suits s.part s.chip.device _ _ some r refl refl) in
     let k = performed_follows s.part act arg s.chip (in_range_lem s.part s.chip.device g.ranged) in
     ready_in_range s.part (performed s.part act arg s.chip).after.device g.known k.range
+
+-- so does an act that the code performed
+pub act_done :
+    (part : ℕ) (act : Act) (arg : ℕ) (w : World) (d : Device) → eqb part 0 ≡ false → ready part w.device ≡ true → d ≡ (performed part act arg w).after.device
+    → ready part d ≡ true
+act_done part act arg w d some r e = subst (λ (x : Device). ready part x ≡ true) (sym e) (act_ready act arg (setup part w) some r)
 
 request_ready : (r : Result Request Fault) (s : Setup) → ReadySetup s → ReadySetup (request_answer r s).after
 request_ready (Ok (PartLine arg)) s h =

@@ -24,7 +24,8 @@ use Rattle.lines.specs.declared.Fault.{Fault}
 use Rattle.lines.specs.declared.Request.{Request}
 use Rattle.lines.specs.declared.Request.TheVariants.{Part as PartLine, Act as ActLine}
 use Rattle.lines.specs.Request.{request_of}
-use Rattle.answers.specs.Answer.{Setup, setup, no_part, fresh_setup, LineAnswer, misplaced, request_answer, line_answer, Held, eeprom_bytes, id_bytes, setup_in, holding, eeprom_room, Lent, ready}
+use Rattle.answers.specs.Answer.{Setup, setup, no_part, fresh_setup, LineAnswer, misplaced, request_answer, line_answer, Held, eeprom_bytes, id_bytes, setup_in, holding, eeprom_room}
+use Rattle.answers.specs.Ready.{ready}
 use Rattle.answers.proofs.AnswerLaws.{ready_suits, line_ready, same_held}
 
 -- a setup with which a tape may go on, and whose memories have the sizes of its part
@@ -34,14 +35,14 @@ pub record Sound (s : Setup) : Type 0 where
   pub id : length s.chip.id ≡ id_bytes s.part
 
 -- what is lent has one
-pub sound_held : (h : Held) → Lent h.eeprom h.id → ready h.part h.device ≡ true → Sound (setup_in h)
-sound_held h l r =
+pub sound_held : (h : Held) → length h.eeprom ≡ eeprom_room → length h.id ≡ id_size → ready h.part h.device ≡ true → Sound (setup_in h)
+sound_held h l m r =
     let e : eeprom_bytes h.part ≤ eeprom_room = pick_case (λ (n : ℕ). n ≤ eeprom_room) (eqb h.part 0) (omega arith) (size_most h.part) in
     let i : id_bytes h.part ≤ id_size = pick_case (λ (n : ℕ). n ≤ id_size) (eqb h.part 0) (omega arith) (omega arith) in
     record {
       goes = r;
-      eeprom = length-take-le (eeprom_bytes h.part) h.eeprom (omega (arith, l.eeprom));
-      id = length-take-le (id_bytes h.part) h.id (omega (arith, l.id));
+      eeprom = length-take-le (eeprom_bytes h.part) h.eeprom (omega arith);
+      id = length-take-le (id_bytes h.part) h.id (omega arith);
     }
 
 -- a part that there is is not 0

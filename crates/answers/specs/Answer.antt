@@ -1,13 +1,12 @@
 -- What a line answers, and what the chip on the tape is after it. What an act does is not said here: it is the act's definition.
 -- Assumes nothing.
-use Rattle.std.specs.Prelude.{ℕ, ◌≡◌, Bool, false, not, ◌||◌, List, ◌≢◌, eqb, length, take, Option, Some, None, Result, Ok, Err}
+use Rattle.std.specs.Prelude.{ℕ, ◌≡◌, Bool, false, not, ◌||◌, List, ◌≢◌, eqb, take, Option, Some, None, Result, Ok, Err}
 use Rattle.base.specs.Words.{pick, over}
 use Rattle.record.specs.declared.Act.{Act}
 use Rattle.record.specs.declared.Act.TheVariants.{Wait, Cut}
 use Rattle.record.specs.declared.Device.{Device}
 use Rattle.record.specs.Part.{is_part, size_of, id_size}
 use Rattle.record.specs.World.{World, world, fresh_world}
-use Rattle.refusals.specs.Refusal.{setup_refusal}
 use Rattle.ticks.specs.Lines.{irq_low, wdo_low}
 use Rattle.acts.specs.Act.{Outcome, performed}
 use Rattle.text.specs.Buffer.{Buffer, buffer, append}
@@ -16,7 +15,7 @@ use Rattle.lines.specs.declared.Request.{Request}
 use Rattle.lines.specs.declared.Request.TheVariants.{Part as PartLine, Act as ActLine}
 use Rattle.lines.specs.Request.{request_of, fault_number, fault_column}
 use Rattle.lines.specs.Print.{out_of, answer_line}
-use Rattle.answers.specs.declared.Progress.{Progress}
+use Rattle.answers.specs.declared.progress.Progress.{Progress}
 
 -- the part that was accepted, 0 while there is none, and its chip with the memories
 pub record Setup : Type 0 where
@@ -128,15 +127,6 @@ shown_in h o a = record { after = holding h a.after; written = append o (answer_
 -- The EEPROM is lent as the bytes of the largest part; a smaller part has the first of them.
 abbrev pub eeprom_room : ℕ
 eeprom_room = 256
-
--- the sizes of the lent memories
-pub record Lent (ee ids : List ℕ) : Type 0 where
-  pub eeprom : length ee ≡ eeprom_room
-  pub id : length ids ≡ id_size
-
--- a part and a record with which a tape may go on: no part, or one of the four with a record in range
-unfoldable pub ready : ℕ → Device → Bool
-ready part d = eqb part 0 || eqb (setup_refusal part d (size_of part) id_size) 0
 
 -- what the code's progress, the memories and the buffer say together
 abbrev pub held_by : Progress → List ℕ → List ℕ → Held

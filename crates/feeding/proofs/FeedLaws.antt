@@ -27,7 +27,8 @@ use Rattle.run.proofs.BeginAgrees.{demand_three_from}
 use Rattle.text.specs.Bytes.{newline}
 use Rattle.text.specs.Buffer.{Buffer, append, room_in}
 use Rattle.lines.specs.Print.{answer_room}
-use Rattle.answers.specs.Answer.{Setup, setup, no_part, ready, eeprom_room, eeprom_bytes, id_bytes, setup_in}
+use Rattle.answers.specs.Ready.{ready}
+use Rattle.answers.specs.Answer.{Setup, setup, no_part, eeprom_room, eeprom_bytes, id_bytes, setup_in}
 use Rattle.answers.proofs.AnswerLaws.{ready_suits}
 use Rattle.answers.proofs.HeldLaws.{Sound, line_sound, held_setup}
 use Rattle.answers.proofs.BoundLaws.{SetupValid, answer_valid, answer_room_lem}
@@ -120,16 +121,10 @@ laid_facts l s t f =
     let e : eeprom_bytes p ≤ eeprom_room = pick_case (λ (n : ℕ). n ≤ eeprom_room) (eqb p 0) (omega arith) (size_most p) in
     let i : id_bytes p ≤ id_size = pick_case (λ (n : ℕ). n ≤ id_size) (eqb p 0) (omega arith) (omega arith) in
     record {
-      headed =
-          record {
-            size = length_over s.begun l.line (omega (arith, f.short, t.headed.size)) ∙ t.headed.size;
-            within = f.short;
-          };
-      lent =
-          record {
-            eeprom = length_over s.setup.chip.eeprom l.eeprom (omega (arith, f.sound.eeprom, t.lent.eeprom)) ∙ t.lent.eeprom;
-            id = length_over s.setup.chip.id l.id (omega (arith, f.sound.id, t.lent.id)) ∙ t.lent.id;
-          };
+      begun = f.short;
+      line = length_over s.begun l.line (omega (arith, f.short, t.line)) ∙ t.line;
+      eeprom = length_over s.setup.chip.eeprom l.eeprom (omega (arith, f.sound.eeprom, t.eeprom)) ∙ t.eeprom;
+      id = length_over s.setup.chip.id l.id (omega (arith, f.sound.id, t.id)) ∙ t.id;
       goes = f.sound.goes;
     }
 
@@ -331,8 +326,10 @@ begins_facts : (l : Loan) → Begins l → TapeFacts l
 unfolding ready
 begins_facts l b =
     record {
-      headed = record { size = b.line; within = omega (arith, ap (λ (t : Tape). t.begun) b.tape) };
-      lent = record { eeprom = b.eeprom; id = b.id };
+      begun = omega (arith, ap (λ (t : Tape). t.begun) b.tape);
+      line = b.line;
+      eeprom = b.eeprom;
+      id = b.id;
       goes = ap (λ (t : Tape). ready t.part t.device) b.tape;
     }
 
@@ -406,7 +403,7 @@ resumes_with part d line ee id t n r =
           };
       tape =
           facts_tape l
-          (record { headed = record { size = n; within = omega arith }; lent = record { eeprom = k.2; id = k.3 }; goes = k.1 });
+          (record { begun = omega arith; line = n; eeprom = k.2; id = k.3; goes = k.1 });
       reached = λ j. state (setup part (world d (take (sym (no 0 (size_of part) k.0) j) ee) (take (sym (no 0 id_size k.0) j) id))) [];
     })
 

@@ -12,7 +12,8 @@ use Rattle.text.specs.Bytes.{newline}
 use Rattle.lines.specs.declared.Fault.{Fault}
 use Rattle.lines.specs.declared.Request.TheVariants.{Part as PartLine, Act as ActLine}
 use Rattle.lines.specs.Request.{request_of, fault_number, fault_column}
-use Rattle.answers.specs.Answer.{Setup, setup, no_part, faulty_line, misplaced, outcome_answer, line_answer, eeprom_bytes, id_bytes, ready}
+use Rattle.answers.specs.Ready.{ready}
+use Rattle.answers.specs.Answer.{Setup, setup, no_part, faulty_line, misplaced, outcome_answer, line_answer, eeprom_bytes, id_bytes}
 use Rattle.tape.specs.Tape.{lines_from, answers_to, state, fed, Loan, loan, state_in, is_tape, resumes, resumed_tape, Typed}
 use Rattle.feeding.specs.Told.{steps_told}
 use Rattle.feeding.specs.Steps.{setup_after}

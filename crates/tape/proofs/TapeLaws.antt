@@ -2,21 +2,22 @@
 -- byte, and with its first piece; and how far a chunk has been answered, from one line to the next.
 -- Assumes nothing.
 use mathlib.Core.Path.{◌≡◌, refl, sym, ap, ◌∙◌}
-use mathlib.Core.Logic.{◌⊎◌, inl, inr, ⊎_elim}
-use mathlib.Core.Bool.{Bool, true, false, ◌&&◌, ◌||◌}
+use mathlib.Core.Bool.{Bool, true, false, ◌&&◌}
 use mathlib.Core.List.{List, [], ◌∷◌, ◌++◌, append-nil, append_assoc}
 use Prim.Native.Nat.{ℕ, suc, ◌+◌, ◌-◌, ◌<◌, ◌≤◌}
-use native.Mathlib.Nat.{add-zero, zero-add}
+use native.Mathlib.Nat.{zero-add}
 use native.Mathlib.Numerals.{one-add}
 use native.Mathlib.Omega.{arith}
-use borrow.Author.Tests.{lt-ltb, le-ltb, le-leb, leb-true, leb-false, ltb-true, ltb-false, eqb-true, eqb-false, eq-eqb, ne_eqb, not-true, not-false}
+use borrow.Author.Tests.{lt-ltb, le-ltb, le-leb, leb-true, leb-false, ltb-true, ltb-false, eqb-true, eq-eqb, ne_eqb, not-true, not-false}
 use lib.Dec.{leb, ltb, eqb}
-use lib.ListN.{length, take, drop, get_or, length-append, length-take, drop_of_length-le, take-append-drop}
-use lib.Seq.{take_all, take_at, drop-cons, take-append-le, take-append-add, take-take, drop-drop, length-take-le, append_snoc, sets-eq}
+use Rattle.std.proofs.Common.{Some, None, cond}
 use Rattle.std.specs.Prelude.{Result}
-use Rattle.base.specs.Words.{over}
-use Rattle.base.proofs.OverLaws.{over_start, take_over}
-use Rattle.base.proofs.Tests.{by_cases, yes, no, either, both_left, both_right, both_true, neither_left, neither_right}
+use Rattle.std.specs.List.{prefix_len, position}
+use lib.ListN.{length, take, drop, get_or, length-append, length-take, length-drop, drop_of_length-le, take-append-drop}
+use lib.Seq.{take_all, drop-cons, take-append-le, take-append-add, take-take, length-take-le, append_snoc, sets-eq}
+use Rattle.base.specs.Words.{pick, over}
+use Rattle.base.proofs.OverLaws.{over_start}
+use Rattle.base.proofs.Tests.{by_cases, yes, no, both_left, both_right, both_true}
 use Rattle.record.specs.Part.{id_size}
 use Rattle.text.specs.Bytes.{leading, newline, plain}
 use Rattle.text.specs.Buffer.{Buffer, buffer, append, room_in}
@@ -28,9 +29,11 @@ use Rattle.lines.specs.Line.{line_limit}
 use Rattle.lines.specs.Request.{request_of}
 use Rattle.lines.specs.Print.{answer_room}
 use Rattle.lines.proofs.LineLaws.{long_asks}
-use Rattle.answers.specs.Answer.{Setup, request_answer, line_answer, answer_text, eeprom_room, Lent, ready, Held, setup_in}
+use Rattle.answers.specs.Answer.{Setup, request_answer, line_answer, answer_text, eeprom_room, Held, setup_in}
+use Rattle.answers.specs.Ready.{ready}
 use Rattle.answers.proofs.HeldLaws.{Sound, sound_held, Onward, onward_start}
-use Rattle.tape.specs.Tape.{State, state, head, head_limit, Headed, Fed, fed_to, ended, fed_byte, ahead, fed, finished, ChunksJoin, taken_within, Taken, put_into, taken_from, Loan, loan, held_in, state_in, lending, buffers_fit, is_tape, Given, gives}
+use Rattle.tape.specs.declared.Tape.{Tape}
+use Rattle.tape.specs.Tape.{State, state, head, head_limit, Fed, fed_to, ended, fed_byte, ahead, fed, finished, ChunksJoin, taken_within, Taken, put_into, taken_from, Loan, loan, held_in, state_in, lending, buffers_fit, is_tape, Given, gives}
 
 -- two chunks answer as their join does
 pub ahead_join : (a b : List ℕ) (f : Fed) → ahead a (ahead b f) ≡ ahead (a ++ b) f
@@ -72,10 +75,10 @@ head_answers l s = ap (λ (r : Result Request Fault). request_answer r s) (head_
 
 -- a piece put behind what is there of a head: how long the head is then, and the lent bytes of the line
 pub head_put :
-    (l m p : List ℕ) (begun r : ℕ) → Headed l begun → buffer m r ≡ append (buffer l begun) (take (head_limit - begun) p)
+    (l m p : List ℕ) (begun r : ℕ) → length l ≡ head_limit → begun ≤ head_limit → buffer m r ≡ append (buffer l begun) (take (head_limit - begun) p)
     → (r ≡ length (head (take begun l ++ p))) × (m ≡ over (head (take begun l ++ p)) l)
 unfolding append
-head_put l m p begun r h e =
+head_put l m p begun r h b e =
     let x = take begun l in
     let t = take (head_limit - begun) p in
     let f : length t ≤ head_limit - begun = simp length-take (omega arith) in
@@ -88,19 +91,6 @@ head_put l m p begun r h e =
           ∙ ap (λ (j : ℕ). (x ++ t) ++ drop j l) a
           ∙ ap (λ (y : List ℕ). over y l) k,
     )
-
--- a text put at the start of a buffer
-pub put_first : (w w' f : List ℕ) (k : ℕ) → buffer w' k ≡ append (buffer w 0) f → length f ≤ length w → (k ≡ length f) × (take k w' ≡ f)
-unfolding append
-put_first w w' f k e h =
-    let q : k ≡ length f = ap (λ (o : Buffer). o.at) e ∙ zero-add (length f) in
-    (q, ap (take k) (ap (λ (o : Buffer). o.bytes) e ∙ sets-eq f w 0 (omega arith)) ∙ take_at f (drop (0 + length f) w) k (sym q))
-
--- a head and a piece that were put together in a line of their own, and read again
-pub head_whole :
-    (w w' f p : List ℕ) (k n : ℕ) → take k w ≡ f → n ≡ length (head (take k w ++ p)) → w' ≡ over (head (take k w ++ p)) w → take n w' ≡ head (f ++ p)
-head_whole w w' f p k n e a b =
-    ap (take n) b ∙ take_over (head (take k w ++ p)) w n (sym a) ∙ ap (λ (x : List ℕ). head (x ++ p)) e
 
 -- what a call gives with so many bytes taken before
 abbrev pub later : ℕ → Taken → Taken
@@ -163,97 +153,103 @@ feed_plain (x ∷ p) r s b o e =
     ∙ same_count t (omega arith)
 
 -- how far a chunk has been answered: what is left of it gives, with the bytes taken before, what the whole gives
-abbrev pub Sofar : State → List ℕ → Buffer → ℕ → State → Buffer → Type 0
-Sofar s₀ chunk o₀ from s o = taken_from s₀ chunk o₀ ≡ later from (taken_from s (drop from chunk) o)
+abbrev pub Sofar : State → List ℕ → Buffer → List ℕ → State → Buffer → Type 0
+Sofar s₀ chunk o₀ rest s o = taken_from s₀ chunk o₀ ≡ later (length chunk - length rest) (taken_from s rest o)
 
-pub sofar_start : (s₀ : State) (chunk : List ℕ) (o₀ : Buffer) → Sofar s₀ chunk o₀ 0 s₀ o₀
-sofar_start s₀ chunk o₀ =
-    let t = taken_from s₀ chunk o₀ in
-    same_count t (sym (zero-add t.count))
+pub sofar_start : (s₀ : State) (chunk : List ℕ) (o₀ : Buffer) → Sofar s₀ chunk o₀ chunk s₀ o₀
+sofar_start s₀ chunk o₀ = same_count (taken_from s₀ chunk o₀) (omega arith)
 
-pub sofar_done :
-    (s₀ : State) (chunk : List ℕ) (o₀ : Buffer) (from : ℕ) (s : State) (o : Buffer) → length chunk ≤ from → Sofar s₀ chunk o₀ from s o
-    → ◌≡◌ {A = Taken} (record { after = s; written = o; count = from }) (taken_from s₀ chunk o₀)
-sofar_done s₀ chunk o₀ from s o h f =
-    let d : drop from chunk ≡ [] = drop_of_length-le chunk {i = from} h in
-    same_count (still o s) (sym (add-zero from))
-    ∙ ap (later from) (sym (feed_none s o) ∙ ap (λ (l : List ℕ). taken_from s l o) (sym d))
-    ∙ sym f
-
--- one turn: it stops with the piece before a line's end, or goes on after that
+-- one turn, with the first n bytes of what is left, which end no line: they are all that is left; the line that they end has no room; or it is answered
 module _
-    (s₀ : State) (chunk : List ℕ) (o₀ : Buffer) (from : ℕ) (s : Setup) (b : List ℕ) (o : Buffer) (w : length b ≤ head_limit)
-    (f : Sofar s₀ chunk o₀ from (state s b) o)
-    (left : List ℕ) (d : left ≡ drop from chunk) (n : ℕ) (q : n ≡ leading plain left) (p : List ℕ) (t : p ≡ take n left)
+    (s₀ : State) (chunk : List ℕ) (o₀ : Buffer) (rest : List ℕ) (h : length rest ≤ length chunk) (s : Setup) (b : List ℕ) (o : Buffer)
+    (w : length b ≤ head_limit) (f : Sofar s₀ chunk o₀ rest (state s b) o)
   where
-    piece_fed : taken_from s₀ chunk o₀ ≡ later from (later n (taken_from (state s (head (b ++ p))) (drop n left) o))
-    piece_fed =
-        let h : n ≤ length left = omega (arith, leading_within plain left) in
-        let l : length p ≡ n = ap length t ∙ length-take-le n left h in
-        let k : leading plain p ≡ length p = rw (t, q) (leading_taken plain left) in
+    piece_fed :
+        (n : ℕ) → n ≡ leading plain rest
+        → taken_from s₀ chunk o₀ ≡ later (length chunk - length rest) (later n (taken_from (state s (head (b ++ take n rest))) (drop n rest) o))
+    piece_fed n q =
+        let k : leading plain (take n rest) ≡ length (take n rest) = rw q (leading_taken plain rest) in
+        let l : length (take n rest) ≡ n = length-take-le n rest (omega (arith, leading_within plain rest)) in
         f
-        ∙ ap (λ (x : List ℕ). later from (taken_from (state s x) (drop from chunk) o)) (sym (head_short b w))
-        ∙ ap (λ (x : List ℕ). later from (taken_from (state s (head b)) x o))
-        (sym d ∙ sym (take-append-drop n left) ∙ ap (λ (x : List ℕ). x ++ drop n left) (sym t))
-        ∙ ap (later from) (feed_plain p (drop n left) s b o k)
-        ∙ ap (λ (m : ℕ). later from (later m (taken_from (state s (head (b ++ p))) (drop n left) o))) l
+        ∙ ap (λ (x : List ℕ). later (length chunk - length rest) (taken_from (state s x) rest o)) (sym (head_short b w))
+        ∙ ap (λ (x : List ℕ). later (length chunk - length rest) (taken_from (state s (head b)) x o)) (sym (take-append-drop n rest))
+        ∙ ap (later (length chunk - length rest)) (feed_plain (take n rest) (drop n rest) s b o k)
+        ∙ ap (λ (m : ℕ). later (length chunk - length rest) (later m (taken_from (state s (head (b ++ take n rest))) (drop n rest) o))) l
 
-    newline_left : n < length left → drop n left ≡ newline ∷ drop (suc n) left
-    newline_left h =
-        let e : eqb (get_or left n 0) newline ≡ true = not-false (eqb (get_or left n 0) newline) (rw q (leading_ends plain left (rw q at h))) in
-        drop-cons left n 0 h ∙ ap (λ (x : ℕ). x ∷ drop (suc n) left) (eqb-true (get_or left n 0) newline e)
+    newline_left : (n : ℕ) → n ≡ leading plain rest → n < length rest → drop n rest ≡ newline ∷ drop (suc n) rest
+    newline_left n q k =
+        let e : eqb (get_or rest n 0) newline ≡ true = not-false (eqb (get_or rest n 0) newline) (rw q (leading_ends plain rest (rw q at k))) in
+        drop-cons rest n 0 k ∙ ap (λ (x : ℕ). x ∷ drop (suc n) rest) (eqb-true (get_or rest n 0) newline e)
 
-    pub turn_stop :
-        (n ≡ length left) ⊎ (room_in o < answer_room) → (l : List ℕ) → l ≡ head (b ++ p)
-        → ◌≡◌ {A = Taken} (record { after = state s l; written = o; count = from + n }) (taken_from s₀ chunk o₀)
-    turn_stop h l e =
-        let x = state s (head (b ++ p)) in
-        let none : length left ≤ n → taken_from x (drop n left) o ≡ still o x =
-        λ k. ap (λ (y : List ℕ). taken_from x y o) (drop_of_length-le left {i = n} k) ∙ feed_none x o in
-        let stopped : taken_from x (drop n left) o ≡ still o x =
-        ⊎_elim (λ (k : n ≡ length left). none (omega arith))
-        (λ (k : room_in o < answer_room).
-        by_cases (ltb n (length left))
-        (λ m. ap (λ (y : List ℕ). taken_from x y o) (newline_left (ltb-true n (length left) m)) ∙ feed_full (drop (suc n) left) x o k)
-        (λ m. none (ltb-false n (length left) m)))
-        h in
-        ap (λ (y : List ℕ). record { after = state s y; written = o; count = from + n }) e
-        ∙ same_count (still o x) (omega arith)
-        ∙ sym (piece_fed ∙ ap (λ (y : Taken). later from (later n y)) stopped)
+    pub turn_ends :
+        length rest ≡ leading plain rest
+        → ◌≡◌ {A = Taken} (record { after = state s (head (b ++ rest)); written = o; count = length chunk }) (taken_from s₀ chunk o₀)
+    turn_ends q =
+        let x = state s (head (b ++ rest)) in
+        let n = length rest in
+        let k = length chunk - n in
+        let m : length chunk ≡ k + (n + 0) = omega arith in
+        same_count (still o x) m
+        ∙ sym
+        (piece_fed n q
+        ∙ ap (λ (l : List ℕ). later k (later n (taken_from (state s (head (b ++ l))) (drop n rest) o))) (take_all n rest (omega arith))
+        ∙ ap (λ (l : List ℕ). later k (later n (taken_from x l o))) (drop_of_length-le rest {i = n} (omega arith))
+        ∙ ap (λ (y : Taken). later k (later n y)) (feed_none x o))
+
+    pub turn_stops :
+        (n : ℕ) → n ≡ leading plain rest → n < length rest → room_in o < answer_room
+        → ◌≡◌ {A = Taken} (record { after = state s (head (b ++ take n rest)); written = o; count = length chunk - length rest + n }) (taken_from s₀ chunk o₀)
+    turn_stops n q k r =
+        let x = state s (head (b ++ take n rest)) in
+        let stopped : taken_from x (drop n rest) o ≡ still o x =
+        ap (λ (y : List ℕ). taken_from x y o) (newline_left n q k) ∙ feed_full (drop (suc n) rest) x o r in
+        same_count (still o x) (omega arith)
+        ∙ sym (piece_fed n q ∙ ap (λ (y : Taken). later (length chunk - length rest) (later n y)) stopped)
 
     pub turn_line :
-        n < length left → answer_room ≤ room_in o → (s' : Setup) (o' : Buffer) → s' ≡ (line_answer (head (b ++ p)) s).after
-        → o' ≡ append o (answer_text (line_answer (head (b ++ p)) s)) → Sofar s₀ chunk o₀ (from + n + 1) (state s' []) o'
-    turn_line h r s' o' e q' =
-        let y = state s (head (b ++ p)) in
-        let k : from + suc n ≡ from + n + 1 = omega arith in
-        let g : drop (suc n) left ≡ drop (from + n + 1) chunk = ap (drop (suc n)) d ∙ drop-drop (suc n) from chunk ∙ ap (λ (m : ℕ). drop m chunk) k in
-        piece_fed
-        ∙ ap (λ (l : List ℕ). later from (later n (taken_from y l o))) (newline_left h)
-        ∙ ap (λ (z : Taken). later from (later n z)) (feed_newline (drop (suc n) left) y o r)
-        ∙ same_count (taken_from (ended y).after (drop (suc n) left) (append o (ended y).answers)) (omega arith)
-        ∙ ap (λ (l : List ℕ). later (from + n + 1) (taken_from (ended y).after l (append o (ended y).answers))) g
-        ∙ (λ i. later (from + n + 1) (taken_from (state (sym e i) []) (drop (from + n + 1) chunk) (sym q' i)))
+        (n : ℕ) → n ≡ leading plain rest → n < length rest → answer_room ≤ room_in o → (s' : Setup) (o' : Buffer)
+        → s' ≡ (line_answer (head (b ++ take n rest)) s).after → o' ≡ append o (answer_text (line_answer (head (b ++ take n rest)) s))
+        → (left : List ℕ) → left ≡ drop (n + 1) rest → Sofar s₀ chunk o₀ left (state s' []) o'
+    turn_line n q k r s' o' e q' left d =
+        let y = state s (head (b ++ take n rest)) in
+        let c = length chunk - length rest in
+        let m : n + 1 ≡ suc n = omega arith in
+        piece_fed n q
+        ∙ ap (λ (l : List ℕ). later c (later n (taken_from y l o))) (newline_left n q k ∙ ap (λ (j : ℕ). newline ∷ drop j rest) (sym m))
+        ∙ ap (λ (z : Taken). later c (later n z)) (feed_newline (drop (n + 1) rest) y o r)
+        ∙ same_count (taken_from (ended y).after (drop (n + 1) rest) (append o (ended y).answers)) (omega (arith, length-drop (n + 1) rest))
+        ∙ (λ i. later (length chunk - length (sym d i)) (taken_from (state (sym e i) []) (sym d i) (sym q' i)))
 
--- what the test of a turn says
-pub stops :
-    (n l room free : ℕ) → room ≡ free → (eqb n l || ltb room answer_room) ≡ true → (n ≡ l) ⊎ (free < answer_room)
-stops n l room free q e =
-    ⊎_elim (λ (k : eqb n l ≡ true). inl (eqb-true n l k))
-    (λ (k : ltb room answer_room ≡ true). let h : room < answer_room = ltb-true room answer_room k in inr (omega arith))
-    (either (eqb n l) (ltb room answer_room) e)
+-- The search for a newline finds the place behind the first bytes that end no line; or there is none.
+grown : (t : Bool) {m n : ℕ} → m ≡ n → pick t (suc m) 0 ≡ cond t (1 + n) 0
+grown true e = omega arith
+grown false e = refl
 
-pub goes :
-    (n l room free : ℕ) → n ≤ l → room ≡ free → (eqb n l || ltb room answer_room) ≡ false → (n < l) × (answer_room ≤ free)
-goes n l room free h q e =
-    let d : n ≡ l → ⊥ = eqb-false n l (neither_left (eqb n l) (ltb room answer_room) e) in
-    let r : answer_room ≤ room = ltb-false room answer_room (neither_right (eqb n l) (ltb room answer_room) e) in
-    (omega arith, omega arith)
+leading_prefix : (kind : ℕ → Bool) (s : List ℕ) → leading kind s ≡ prefix_len kind s
+unfolding leading
+leading_prefix kind [] = refl
+leading_prefix kind (x ∷ s) = grown (kind x) (leading_prefix kind s)
+
+placed : (t : Bool) {m n l : ℕ} → ltb m l ≡ t → Some n ≡ cond t (Some m) None → (n ≡ m) × (n < l)
+placed true {m = m} {n = n} {l = l} h e = let q : n ≡ m = cc in (q, omega (arith, ltb-true m l h))
+placed false h e = absurd (cc)
+
+unplaced : (t : Bool) {m l : ℕ} → ltb m l ≡ t → None ≡ cond t (Some m) None → l ≤ m
+unplaced true h e = absurd (cc)
+unplaced false {m = m} {l = l} h e = ltb-false m l h
+
+pub newline_at : (s : List ℕ) (n : ℕ) → Some n ≡ position (λ b. eqb b newline) s → (n ≡ leading plain s) × (n < length s)
+newline_at s n e = let k = placed _ refl e in (k.0 ∙ sym (leading_prefix plain s), k.1)
+
+pub newline_none : (s : List ℕ) → None ≡ position (λ b. eqb b newline) s → length s ≡ leading plain s
+newline_none s e = omega (arith, unplaced _ refl e, leading_prefix plain s, leading_within plain s)
 
 -- what a tape is, test by test
 pub record TapeFacts (l : Loan) : Type 0 where
-  pub headed : Headed l.line l.tape.begun
-  pub lent : Lent l.eeprom l.id
+  pub begun : l.tape.begun ≤ head_limit
+  pub line : length l.line ≡ head_limit
+  pub eeprom : length l.eeprom ≡ eeprom_room
+  pub id : length l.id ≡ id_size
   pub goes : ready l.tape.part l.tape.device ≡ true
 
 pub tape_facts : (l : Loan) → is_tape l ≡ true → TapeFacts l
@@ -267,12 +263,10 @@ tape_facts l e =
     let e3 : (t1 && t2 && t3) ≡ true = both_left (t1 && t2 && t3) t4 e4 in
     let e2 : (t1 && t2) ≡ true = both_left (t1 && t2) t3 e3 in
     record {
-      headed = record { size = eqb-true (length l.line) head_limit (both_right t1 t2 e2); within = leb-true l.tape.begun head_limit (both_left t1 t2 e2) };
-      lent =
-          record {
-            eeprom = eqb-true (length l.eeprom) eeprom_room (both_right (t1 && t2) t3 e3);
-            id = eqb-true (length l.id) id_size (both_right (t1 && t2 && t3) t4 e4);
-          };
+      begun = leb-true l.tape.begun head_limit (both_left t1 t2 e2);
+      line = eqb-true (length l.line) head_limit (both_right t1 t2 e2);
+      eeprom = eqb-true (length l.eeprom) eeprom_room (both_right (t1 && t2) t3 e3);
+      id = eqb-true (length l.id) id_size (both_right (t1 && t2 && t3) t4 e4);
       goes = both_right (t1 && t2 && t3 && t4) (ready l.tape.part l.tape.device) e;
     }
 
@@ -280,14 +274,33 @@ pub facts_tape : (l : Loan) → TapeFacts l → is_tape l ≡ true
 unfolding is_tape buffers_fit
 facts_tape l f =
     both_true
-    (both_true
-    (both_true (both_true (le-leb _ _ f.headed.within) (eq-eqb _ _ f.headed.size)) (eq-eqb _ _ f.lent.eeprom))
-    (eq-eqb _ _ f.lent.id))
+    (both_true (both_true (both_true (le-leb _ _ f.begun) (eq-eqb _ _ f.line)) (eq-eqb _ _ f.eeprom)) (eq-eqb _ _ f.id))
     f.goes
+
+-- what lacks one of these facts is none
+pub no_tape : (l : Loan) → (TapeFacts l → ⊥) → is_tape l ≡ false
+no_tape l n = by_cases (is_tape l) (λ e. absurd (n (tape_facts l e))) (λ e. e)
+
+-- in what has the sizes of a tape the other tests decide
+others : (t r : Bool) → (t && true && true && true && r) ≡ (t && r)
+others true r = refl
+others false r = refl
+
+pub tape_judged :
+    (l : Loan) {r : Bool} → length l.line ≡ head_limit → length l.eeprom ≡ eeprom_room → length l.id ≡ id_size → r ≡ ready l.tape.part l.tape.device
+    → is_tape l ≡ (leb l.tape.begun head_limit && r)
+unfolding is_tape buffers_fit
+tape_judged l {r = r} line ee id e =
+    let t = leb l.tape.begun head_limit in
+    (λ i. t && eq-eqb _ _ line i && eq-eqb _ _ ee i && eq-eqb _ _ id i && sym e i) ∙ others t r
+
+-- the lent lists by other names
+pub loan_same : (t : Tape) {line ee id l e i : List ℕ} → line ≡ l → ee ≡ e → id ≡ i → loan t line ee id ≡ loan t l e i
+loan_same t p q r = λ j. loan t (p j) (q j) (r j)
 
 -- what is lent at first has a sound setup
 pub tape_sound : (l : Loan) → TapeFacts l → Sound (setup_in (held_in l))
-tape_sound l f = sound_held (held_in l) f.lent f.goes
+tape_sound l f = sound_held (held_in l) f.eeprom f.id f.goes
 
 -- all that is lent after a call: by what is held, and by what is kept of a line
 pub lent_after :
@@ -296,15 +309,12 @@ pub lent_after :
 lent_after l₀ h kept line begun o b e =
     λ i. loan (record { part = (o.beyond i).part; device = (o.beyond i).device; begun = b i }) (e i) (o.beyond i).eeprom (o.beyond i).id
 
--- a call that keeps of the line what was kept before, and the lent bytes of it
-pub kept_same : (line : List ℕ) (begun : ℕ) → Headed line begun → (begun ≡ length (take begun line)) × (line ≡ over (take begun line) line)
-kept_same line begun h = (sym (length-take-le begun line (omega (arith, h.size, h.within))), sym (over_start begun line))
-
 -- what is lent, with its own state in its place
 pub lent_same : (l : Loan) → TapeFacts l → l ≡ lending l (state_in l)
 lent_same l f =
-    let k = kept_same l.line l.tape.begun f.headed in
-    lent_after l (held_in l) (take l.tape.begun l.line) l.line l.tape.begun (onward_start (held_in l) (tape_sound l f)) k.0 k.1
+    let b = l.tape.begun in
+    lent_after l (held_in l) (take b l.line) l.line b (onward_start (held_in l) (tape_sound l f))
+    (sym (length-take-le b l.line (omega (arith, f.begun, f.line)))) (sym (over_start b l.line))
 
 -- what a call gives, by what is lent after it and by what its state becomes
 pub given :

@@ -1,7 +1,7 @@
 -- A tape as bytes: the lines of a byte string and their answers; and the same as it comes, chunk by chunk, with the beginning of a line that
 -- has not ended yet. A line ends at a newline; a last line without one is a line too, and so is an empty one. No input, no answer.
 -- Assumes nothing.
-use Rattle.std.specs.Prelude.{ℕ, suc, ◌-◌, ◌≤◌, ◌≡◌, Bool, not, ◌&&◌, List, [], ◌∷◌, ◌++◌, leb, ltb, eqb, length, take}
+use Rattle.std.specs.Prelude.{ℕ, suc, ◌-◌, ◌≡◌, Bool, not, ◌&&◌, List, [], ◌∷◌, ◌++◌, leb, ltb, eqb, length, take}
 use Rattle.base.specs.Words.{pick, over}
 use Rattle.record.specs.declared.Device.{Device}
 use Rattle.record.specs.Part.{id_size}
@@ -11,7 +11,9 @@ use Rattle.text.specs.Bytes.{newline}
 use Rattle.text.specs.Buffer.{Buffer, buffer, append, room_in}
 use Rattle.lines.specs.Line.{line_limit}
 use Rattle.lines.specs.Print.{answer_room}
-use Rattle.answers.specs.Answer.{Setup, setup, LineAnswer, line_answer, answer_text, eeprom_room, ready, Held, setup_in, holding}
+use Rattle.answers.specs.Answer.{Setup, setup, LineAnswer, line_answer, answer_text, eeprom_room, Held, setup_in, holding}
+use Rattle.answers.specs.Ready.{ready}
+use Rattle.answers.specs.declared.progress.Progress.{Progress}
 use Rattle.tape.specs.declared.Tape.{Tape}
 use Rattle.tape.specs.declared.Feed.{Feed}
 
@@ -191,10 +193,9 @@ feed_into l chunk o = pick (is_tape l) (gives l (taken_from (state_in l) chunk o
 unfoldable pub finish_into : Loan → Buffer → Given
 finish_into l o = pick (is_tape l && leb answer_room (room_in o)) (gives l (put_into o 0 (finished (state_in l)))) (unchanged l o)
 
--- the lent bytes for the head of a line, and how many of them are one
-pub record Headed (line : List ℕ) (begun : ℕ) : Type 0 where
-  pub size : length line ≡ head_limit
-  pub within : begun ≤ head_limit
+-- the code's tape of a progress, with so many bytes of a line
+abbrev pub tape_of : Progress → ℕ → Tape
+tape_of p begun = record { part = p.part; device = p.device; begun = begun }
 
 -- what the code's answer and the lent bytes say together
 abbrev pub given_by : Feed → List ℕ → List ℕ → List ℕ → List ℕ → Given

@@ -5,7 +5,7 @@ use Rattle.std.specs.Prelude.{Some, Ok, Err}
 use Rattle.text.specs.Buffer.{buffer}
 use Rattle.lines.specs.declared.Request.TheVariants.{Part as PartLine, Act as ActLine}
 use Rattle.answers.specs.Answer.{answer, held_by, setup_in, shown_in}
-use Rattle.answers.proofs.AnswerLaws.{asked_shown}
+use Rattle.answers.proofs.AnswerLaws.{asked_shown, refused_shown}
 use Rattle.answers.proofs.answer_line.Goals as goal
 
 pub returns-in-Ok-Part : goal.returns-in-Ok-Part
@@ -26,5 +26,5 @@ returns-in-Err c =
     let h = held_by a.p a.eeprom.now a.id.now in
     let o = buffer a.into.now a.p.at in
     asked_shown a.line.now h o (Err _) (sym c.in-Err.ensures)
-    (c.refused_line.ensures a.eeprom.now a.id.now
+    (c.told.ensures a.eeprom.now a.id.now ∙ refused_shown h o _ (Some _)
     ∙ (λ i. shown_in h o (answer (c.number.ensures i) (Some (c.column.ensures i)) (setup_in h))))

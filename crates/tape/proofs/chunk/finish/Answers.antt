@@ -1,48 +1,65 @@
 -- `tape::chunk::finish`: what is no tape, an end, and no room for its answer.
 -- Assumes nothing.
-use native.Mathlib.Omega.{arith}
-use mathlib.Core.Path.{◌≡◌, sym, ap, ◌∙◌}
-use mathlib.Core.Bool.{Bool, true, ◌&&◌}
-use Prim.Native.Nat.{◌-◌}
+use mathlib.Core.Path.{◌≡◌, refl, sym, ap, ◌∙◌}
+use mathlib.Core.Bool.{Bool, false, ◌&&◌}
+use Prim.Native.Nat.{ℕ}
 use lib.Dec.{leb}
-use lib.ListN.{length}
-use borrow.Author.Tests.{le-leb, lt-leb}
-use Rattle.base.proofs.Tests.{yes, no, both_true}
+use Rattle.base.proofs.Tests.{yes, no}
+use Rattle.text.specs.Buffer.{Buffer, buffer, room_in}
 use Rattle.lines.specs.Print.{answer_room}
-use Rattle.tape.specs.Tape.{Loan, loan, is_tape, finish_into}
+use Rattle.tape.specs.Tape.{Loan, loan, state_in, finished, put_into, gives, unchanged, is_tape, finish_into}
+use Rattle.tape.proofs.TapeLaws.{no_tape, tape_judged, loan_same}
 use Rattle.tape.proofs.chunk.finish.Goals as goal
 
--- it is a tape where the first test failed
-good : {r : Bool} (l : Loan) → r ≡ is_tape l → r ≡ true → is_tape l ≡ true
-good l e h = sym e ∙ h
+-- what is no tape has no end
+unfinished : (l : Loan) (o : Buffer) → is_tape l ≡ false → unchanged l o ≡ finish_into l o
+unfolding finish_into
+unfinished l o f = no _ _ (ap (λ (t : Bool). t && leb answer_room (room_in o)) f)
 
-pub returns-then-not-good : goal.returns-then-not-good
-unfolding finish_into is_tape
-returns-then-not-good c =
+pub returns-in_default : goal.returns-in_default
+returns-in_default c =
     let a = c.args in
-    let f = sym c.is_tape-good.ensures ∙ c.if-not-good.true in
-    no _ _ (ap (λ (x : Bool). x && leb answer_room (length a.into.now - a.at)) f)
+    unfinished (loan a.tape a.line.now a.eeprom.now a.id.now) (buffer a.into.now a.at) (no_tape _ (λ f. c.in_default.ensures.cases f.line))
 
-pub finish_line-requires : goal.finish_line-requires
-unfolding is_tape
-finish_line-requires c =
-    let r = c.room-has_room in
-    record {
-      id_value = good (loan c.args.tape c.args.line.now c.args.eeprom.now c.args.id.now) c.is_tape-good.ensures c.if-not-good.false;
-      answer_room_in_bounds = omega (arith, c.if-has_room.true, r.ensures);
-    }
+pub returns-in_default-as_mut_array : goal.returns-in_default-as_mut_array
+returns-in_default-as_mut_array c =
+    let a = c.args in
+    let o = buffer a.into.now a.at in
+    ap (λ (x : Loan). unchanged x o) (loan_same a.tape c.in-Some.ensures.cases.same refl refl)
+    ∙ unfinished _ o (no_tape _ (λ f. c.in_default-as_mut_array.ensures.cases f.eeprom))
 
-pub returns-then-has_room : goal.returns-then-has_room
-unfolding finish_into is_tape
-returns-then-has_room c =
+pub returns-in_default-as_mut_array-2 : goal.returns-in_default-as_mut_array-2
+returns-in_default-as_mut_array-2 c =
+    let a = c.args in
+    let o = buffer a.into.now a.at in
+    ap (λ (x : Loan). unchanged x o) (loan_same a.tape c.in-Some.ensures.cases.same c.in-Some-as_mut_array.ensures.cases.same refl)
+    ∙ unfinished _ o (no_tape _ (λ f. c.in_default-as_mut_array-2.ensures.cases f.id))
+
+-- the code's test is the definition's
+tested : (l : Loan) (o : Buffer) {t : Bool} {r : ℕ} → is_tape l ≡ t → r ≡ room_in o → (is_tape l && leb answer_room (room_in o)) ≡ (t && leb answer_room r)
+tested l o e q = λ i. e i && leb answer_room (sym q i)
+
+pub returns-then-tape-is_ready : goal.returns-then-tape-is_ready
+unfolding finish_into
+returns-then-tape-is_ready c =
+    let a = c.args in
+    let o = buffer a.into.now a.at in
+    let l = loan a.tape a.line.now a.eeprom.now a.id.now in
+    let line = c.in-Some.ensures.cases in
+    let ee = c.in-Some-as_mut_array.ensures.cases in
+    let id = c.in-Some-as_mut_array-2.ensures.cases in
     c.finish_line.ensures
-    ∙ yes _ _ (both_true (good (loan c.args.tape c.args.line.now c.args.eeprom.now c.args.id.now) c.is_tape-good.ensures c.if-not-good.false) (ap (leb answer_room) (sym c.room-has_room.ensures) ∙ le-leb _ _ c.if-has_room.true))
+    ∙ ap (λ (x : Loan). gives x (put_into o 0 (finished (state_in x)))) (loan_same a.tape line.same ee.same id.same)
+    ∙ yes _ _ (tested l o (tape_judged l line.long ee.long id.long c.is_ready.ensures) c.room-has_room.ensures ∙ c.if-tape-is_ready.true)
 
 pub returns : goal.returns
-unfolding finish_into is_tape
+unfolding finish_into
 returns c =
     let a = c.args in
-    no _ _
-    (ap (λ (x : Bool). x && leb answer_room (length a.into.now - a.at)) (good (loan c.args.tape c.args.line.now c.args.eeprom.now c.args.id.now) c.is_tape-good.ensures c.if-not-good.false)
-    ∙ ap (leb answer_room) (sym c.room-has_room.ensures)
-    ∙ lt-leb _ _ c.if-has_room.false)
+    let o = buffer a.into.now a.at in
+    let l = loan a.tape a.line.now a.eeprom.now a.id.now in
+    let line = c.in-Some.ensures.cases in
+    let ee = c.in-Some-as_mut_array.ensures.cases in
+    let id = c.in-Some-as_mut_array-2.ensures.cases in
+    ap (λ (x : Loan). unchanged x o) (loan_same a.tape line.same ee.same id.same)
+    ∙ no _ _ (tested l o (tape_judged l line.long ee.long id.long c.is_ready.ensures) c.room-has_room.ensures ∙ c.if-tape-is_ready.false)
