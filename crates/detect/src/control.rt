@@ -49,6 +49,7 @@ pub fn low_runs(counted: bool, v: u8) -> bool
 }
 
 // A flag holds IRQ low.
+#[tactic(auto, unfolding(events::specs::Control::pulls_irq))]
 pub fn pulls_irq(v: u8) -> bool
     ensures { result ≡ pulls_irq v }
 {

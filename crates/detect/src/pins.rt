@@ -1,7 +1,11 @@
+#![tactic(auto, unfolding(events::specs::Pins::drum_set, events::specs::Pins::door_set, events::specs::Pins::zeroes_watchdog))]
+
 // What a level set at EVHS or EVLS, a write of 0Bh and a cut do.
 ghost use Rattle.std.specs.Prelude.{◌≡◌};
 ghost use Rattle.events.specs.Pins.{rising, falling, with_drum, with_door, edge_counted, counts_edge, drum_set, zeroes_watchdog, door_set, no_counts};
 
+use super::control::{EVHIF, debounce_ticks, high_runs, low_runs, number};
+use super::moment::Moment;
 use events::{Events, Inputs};
 
 fn is_rising(old: u8, new: u8) -> bool
@@ -20,62 +24,21 @@ fn is_falling(old: u8, new: u8) -> bool
 fn counts_edge(counted: bool, v: u8) -> bool
     ensures { result ≡ counts_edge counted v }
 {
-    let runs = super::control::high_runs(counted, v);
-    runs & !(v / 8 % 2 == 1)
-}
-
-fn with_drum(level: u8, s: Inputs) -> Inputs
-    ensures { result ≡ with_drum level s }
-{
-    let mut events = s.events;
-    events.drum = level;
-    let mut next = s;
-    next.events = events;
-    next
-}
-
-fn with_door(level: u8, left: u16, s: Inputs) -> Inputs
-    ensures { result ≡ with_door level left s }
-{
-    let mut events = s.events;
-    events.door = level;
-    events.debounce = left;
-    let mut next = s;
-    next.events = events;
-    next
+    high_runs(counted, v) & !(v / 8 % 2 == 1)
 }
 
 // An edge that is counted: the one that fills the number sets EVHIF.
 fn edge_counted(s: Inputs) -> Inputs
     ensures { result ≡ edge_counted s }
 {
-    let most = super::control::number(s.control);
-    let mut events = s.events;
-    if events.edges < most - 1 {
-        events.edges = events.edges + 1;
-        let mut next = s;
-        next.events = events;
+    let mut next = s;
+    if s.events.edges < number(s.control) - 1 {
+        next.events.edges += 1;
         return next;
     }
-    events.edges = 0;
-    events.since = 0;
-    let mut next = s;
-    next.events = events;
-    next.control = s.control | 0x80;
-    next
-}
-
-// EVHS is set to a level.
-pub fn drum_set(counted: bool, level: u8, s: Inputs) -> Inputs
-    ensures { result ≡ drum_set counted level s }
-{
-    let old = s.events;
-    let rises = is_rising(old.drum, level);
-    let counts = counts_edge(counted, s.control);
-    let next = with_drum(level, s);
-    if rises & counts {
-        return edge_counted(next);
-    }
+    next.events.edges = 0;
+    next.events.since = 0;
+    next.control |= EVHIF;
     next
 }
 
@@ -83,37 +46,49 @@ pub fn drum_set(counted: bool, level: u8, s: Inputs) -> Inputs
 pub fn zeroes_watchdog(level: u8, s: Inputs) -> bool
     ensures { result ≡ zeroes_watchdog level s }
 {
-    let old = s.events;
-    let rises = is_rising(old.drum, level);
-    let falls = is_falling(old.drum, level);
-    (s.control / 8 % 2 == 1) & (rises | falls)
+    let old = s.events.drum;
+    (s.control / 8 % 2 == 1) & (is_rising(old, level) | is_falling(old, level))
 }
 
-// EVLS is set to a level.
-pub fn door_set(counted: bool, level: u8, s: Inputs) -> Inputs
-    ensures { result ≡ door_set counted level s }
-{
-    let old = s.events;
-    let falls = is_falling(old.door, level);
-    if falls {
-        return with_door(level, 0, s);
+impl Moment {
+    // EVHS is set to a level.
+    pub fn drum_set(self, level: u8) -> Inputs
+        ensures { result ≡ drum_set self.counted level self.inputs }
+    {
+        let s = self.inputs;
+        let mut next = s;
+        next.events.drum = level;
+        if is_rising(s.events.drum, level) & counts_edge(self.counted, s.control) {
+            return edge_counted(next);
+        }
+        next
     }
-    let rises = is_rising(old.door, level);
-    let runs = super::control::low_runs(counted, s.control);
-    if rises & runs {
-        let left = super::control::debounce_ticks(s.control);
-        return with_door(level, left, s);
+
+    // EVLS is set to a level.
+    pub fn door_set(self, level: u8) -> Inputs
+        ensures { result ≡ door_set self.counted level self.inputs }
+    {
+        let s = self.inputs;
+        let old = s.events.door;
+        let mut next = s;
+        next.events.door = level;
+        if is_falling(old, level) {
+            next.events.debounce = 0;
+        } else if is_rising(old, level) & low_runs(self.counted, s.control) {
+            next.events.debounce = debounce_ticks(s.control);
+        }
+        next
     }
-    with_door(level, old.debounce, s)
 }
 
 // The counts at 0, the levels as they are.
 pub fn no_counts(e: Events) -> Events
     ensures { result ≡ no_counts e }
 {
-    let mut next = e;
-    next.edges = 0;
-    next.since = 0;
-    next.debounce = 0;
-    next
+    Events {
+        edges: 0,
+        since: 0,
+        debounce: 0,
+        ..e
+    }
 }

@@ -1,3 +1,5 @@
+#![tactic(auto, unfolding(events::specs::Range::window_out, events::specs::Range::debounce_out, events::specs::Range::events_out))]
+
 // Number 6 for the event inputs: each row of the list is a test over the fields that it reads.
 ghost use Rattle.std.specs.Prelude.{◌≡◌};
 ghost use Rattle.events.specs.Range.{window_out, debounce_out, events_out};

@@ -2,72 +2,58 @@
 ghost use Rattle.std.specs.Prelude.{◌≡◌};
 ghost use Rattle.events.specs.Tick.{window_runs, window_tick, debounce_runs, debounce_tick, events_tick};
 
-use super::control::WINDOW_TICKS;
+use super::control::{EVLIF, WINDOW_TICKS, high_runs, low_runs};
+use super::moment::Moment;
 use events::Inputs;
 
-// The ticks since the first edge run.
-pub fn window_runs(counted: bool, s: Inputs) -> bool
-    ensures { result ≡ window_runs counted s }
-{
-    let old = s.events;
-    let runs = super::control::high_runs(counted, s.control);
-    runs & (0 < old.edges)
-}
-
-fn window_tick(counted: bool, s: Inputs) -> Inputs
-    ensures { result ≡ window_tick counted s }
-{
-    let mut events = s.events;
-    let runs = window_runs(counted, s);
-    if runs {
-        if events.since < WINDOW_TICKS {
-            events.since = events.since + 1;
-            let mut next = s;
-            next.events = events;
-            return next;
-        }
-        events.edges = 0;
-        events.since = 0;
-        let mut next = s;
-        next.events = events;
-        return next;
+impl Moment {
+    // The ticks since the first edge run.
+    pub fn window_runs(self) -> bool
+        ensures { result ≡ window_runs self.counted self.inputs }
+    {
+        high_runs(self.counted, self.inputs.control) & (0 < self.inputs.events.edges)
     }
-    s
-}
 
-// The debounce runs.
-pub fn debounce_runs(counted: bool, s: Inputs) -> bool
-    ensures { result ≡ debounce_runs counted s }
-{
-    let old = s.events;
-    let runs = super::control::low_runs(counted, s.control);
-    runs & (0 < old.debounce)
-}
-
-fn debounce_tick(counted: bool, s: Inputs) -> Inputs
-    ensures { result ≡ debounce_tick counted s }
-{
-    let mut events = s.events;
-    let runs = debounce_runs(counted, s);
-    if runs {
-        if events.debounce == 1 {
-            events.debounce = 0;
-            let mut next = s;
-            next.events = events;
-            next.control = s.control | 0x40;
-            return next;
+    fn window_tick(self) -> Inputs
+        ensures { result ≡ window_tick self.counted self.inputs }
+    {
+        let mut next = self.inputs;
+        if self.window_runs() {
+            if next.events.since < WINDOW_TICKS {
+                next.events.since += 1;
+            } else {
+                next.events.edges = 0;
+                next.events.since = 0;
+            }
         }
-        events.debounce = events.debounce - 1;
-        let mut next = s;
-        next.events = events;
-        return next;
+        next
     }
-    s
-}
 
-pub fn events_tick(counted: bool, s: Inputs) -> Inputs
-    ensures { result ≡ events_tick counted s }
-{
-    let next = window_tick(counted, s);
-    debounce_tick(counted, next)
+    // The debounce runs.
+    pub fn debounce_runs(self) -> bool
+        ensures { result ≡ debounce_runs self.counted self.inputs }
+    {
+        low_runs(self.counted, self.inputs.control) & (0 < self.inputs.events.debounce)
+    }
+
+    fn debounce_tick(self) -> Inputs
+        ensures { result ≡ debounce_tick self.counted self.inputs }
+    {
+        let mut next = self.inputs;
+        if self.debounce_runs() {
+            if next.events.debounce == 1 {
+                next.control |= EVLIF;
+            }
+            next.events.debounce -= 1;
+        }
+        next
+    }
+
+    #[tactic(auto, unfolding(events::specs::Tick::events_tick))]
+    pub fn events_tick(self) -> Inputs
+        ensures { result ≡ events_tick self.counted self.inputs }
+    {
+        let inputs = self.window_tick();
+        Moment { inputs, ..self }.debounce_tick()
+    }
 }

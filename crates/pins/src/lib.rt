@@ -2,46 +2,30 @@
 
 // The level of an event input set, on the record.
 ghost use Rattle.std.specs.Prelude.{◌≡◌};
-ghost use Rattle.pins.specs.Set.{door_at, drum_at, after_set};
+ghost use Rattle.pins.specs.Set.{after_set};
 
-use record::{Device, Pin, inputs, registers};
+use detect::moment::Moment;
+use detect::pins::zeroes_watchdog;
+use record::inputs::{inputs_of, with_inputs};
+use record::registers::is_oscon;
+use record::{Device, Pin};
 
-// EVLS, the door's switch.
-fn door_at(level: u8, d: Device) -> Device
-    ensures { result ≡ door_at level d }
-{
-    let counted = registers::is_oscon(d.counters);
-    let before = inputs::inputs_of(d);
-    let after = detect::pins::door_set(counted, level, before);
-    inputs::with_inputs(d, after)
-}
-
-// EVHS, the drum's sensor.
-fn drum_at(level: u8, d: Device) -> Device
-    ensures { result ≡ drum_at level d }
-{
-    let counted = registers::is_oscon(d.counters);
-    let before = inputs::inputs_of(d);
-    let after = detect::pins::drum_set(counted, level, before);
-    inputs::with_inputs(d, after)
-}
-
-// A pin set to a level. With EVWDT set an edge of EVHS makes the watchdog's count 0.
+// A pin set to a level: EVLS, the door's switch, or EVHS, the drum's sensor. With EVWDT set an edge of EVHS makes the watchdog's count 0.
+#[tactic(auto, unfolding(crate::specs::Set::after_set))]
 pub fn after_set(pin: Pin, level: u8, d: Device) -> Device
     ensures { result ≡ after_set pin level d }
 {
+    let inputs = inputs_of(d);
+    let counted = is_oscon(d.counters);
+    let moment = Moment { counted, inputs };
     match pin {
-        Pin::Evls => door_at(level, d),
+        Pin::Evls => with_inputs(d, moment.door_set(level)),
         Pin::Evhs => {
-            let before = inputs::inputs_of(d);
-            let kicks = detect::pins::zeroes_watchdog(level, before);
-            let after = drum_at(level, d);
-            if kicks {
-                let mut next = after;
+            let mut next = with_inputs(d, moment.drum_set(level));
+            if zeroes_watchdog(level, inputs) {
                 next.counters.watchdog = 0;
-                return next;
             }
-            after
+            next
         }
     }
 }

@@ -22,55 +22,44 @@ fn delay_after(v: u8) -> u32
 fn day_written(vbat: bool, regs: [u8; 32]) -> [u8; 32]
     ensures { result ≡ day_written vbat regs }
 {
-    let written = registers::vbat_set(regs);
-    if written {
-        if vbat {
-            return regs;
-        }
-        let mut next = regs;
-        next[DAY] = regs[DAY] & !VBAT;
-        return next;
+    if !registers::vbat_set(regs) {
+        return stamps::unstamped(regs);
     }
-    stamps::unstamped(regs)
+    let mut next = regs;
+    if !vbat {
+        next[DAY] = regs[DAY] & !VBAT;
+    }
+    next
 }
 
 // What follows from a register's write: 01h may stop the oscillator, 04h may clear VBAT, 0Ah restarts the watchdog, 0Bh ends
 // what the event inputs count.
+#[tactic(auto, unfolding(crate::specs::Write::after_write))]
 fn after_write(boots: bool, vbat: bool, at: ClockAddress, d: Device) -> Device
     ensures { result ≡ after_write boots vbat at.0 d }
 {
-    let a = at.0 as usize;
-    if a == SECONDS {
-        if !boots & !(d.regs[SECONDS] / ST % 2 == 1) {
-            let mut counters = d.counters;
-            counters.startup = 0;
-            let mut next = d;
-            next.counters = counters;
-            return next;
+    let mut next = d;
+    match at.0 as usize {
+        SECONDS => {
+            if !boots & !(d.regs[SECONDS] / ST % 2 == 1) {
+                next.counters.startup = 0;
+            }
         }
-        return d;
+        DAY => {
+            let regs = day_written(vbat, d.regs);
+            next.regs = regs;
+        }
+        WATCHDOG => {
+            next.counters.watchdog = 0;
+            next.counters.delay = delay_after(d.regs[WATCHDOG]);
+        }
+        EVENT => {
+            let events = detect::pins::no_counts(d.events);
+            next.events = events;
+        }
+        _ => {}
     }
-    if a == DAY {
-        let regs = day_written(vbat, d.regs);
-        let mut next = d;
-        next.regs = regs;
-        return next;
-    }
-    if a == WATCHDOG {
-        let mut counters = d.counters;
-        counters.watchdog = 0;
-        counters.delay = delay_after(d.regs[WATCHDOG]);
-        let mut next = d;
-        next.counters = counters;
-        return next;
-    }
-    if a == EVENT {
-        let events = detect::pins::no_counts(d.events);
-        let mut next = d;
-        next.events = events;
-        return next;
-    }
-    d
+    next
 }
 
 // A byte written over another under a mask: what the mask leaves out keeps its value.
@@ -87,13 +76,13 @@ fn write_register(boots: bool, d: Device, at: ClockAddress, v: u8) -> Device
 {
     let i = at.0 as usize;
     let vbat = registers::vbat_set(d.regs);
-    let stored = under_mask(WRITABLE[i], d.regs[i], v);
     let mut next = d;
-    next.regs[i] = stored;
+    next.regs[i] = under_mask(WRITABLE[i], d.regs[i], v);
     after_write(boots, vbat, at, next)
 }
 
 // From 60h up a WRITE is dropped (bench).
+#[tactic(auto, unfolding(crate::specs::Write::write_clock))]
 pub fn write_clock(boots: bool, d: Device, at: ClockAddress, v: u8) -> Device
     ensures { result ≡ write_clock boots d at v }
 {
@@ -101,11 +90,9 @@ pub fn write_clock(boots: bool, d: Device, at: ClockAddress, v: u8) -> Device
     if a < 0x20 {
         return write_register(boots, d, at, v);
     }
+    let mut next = d;
     if a < 0x60 {
-        let i = (a - 0x20) as usize;
-        let mut next = d;
-        next.sram[i] = v;
-        return next;
+        next.sram[(a - 0x20) as usize] = v;
     }
-    d
+    next
 }

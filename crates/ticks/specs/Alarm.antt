@@ -6,6 +6,17 @@ use Rattle.base.specs.Words.{pick}
 use Rattle.calendar.specs.declared.Advanced.{Advanced}
 use Rattle.record.specs.Registers.{active, alm_code, alm0, alm1, hundredths_at, seconds_at, minutes_at, hours_at, day_at, date_at, month_at, alarm0_at, alarm1_at, alarm0_month_at, alarm1_hundredths_at}
 use Rattle.ticks.specs.declared.alarm.Matches.{Matches}
+use Rattle.ticks.specs.declared.alarm.Alarm.{Alarm}
+use Rattle.ticks.specs.declared.alarm.Alarm.TheVariants.{Zero, One}
+
+-- the register of an alarm's flag, and its bit in 08h
+abbrev pub flag_at : Alarm → ℕ
+flag_at Zero = alarm0_at
+flag_at One = alarm1_at
+
+abbrev pub bit_of : Alarm → ℕ
+bit_of Zero = alm0
+bit_of One = alm1
 
 -- the low bits below w of two registers agree
 abbrev pub agree : ℕ → List ℕ → ℕ → ℕ → Bool
@@ -33,6 +44,15 @@ month_match regs = agree 32 regs month_at alarm0_month_at
 abbrev pub hundredths_match : List ℕ → Bool
 hundredths_match regs = eqb (get_or regs hundredths_at 0) (get_or regs alarm1_hundredths_at 0)
 
+-- K17. Alarm 0 has the month beside its fields, and no hundredths; K18. alarm 1 has hundredths, which advance at every such tick.
+abbrev pub month_of : Alarm → List ℕ → Bool
+month_of Zero regs = month_match regs
+month_of One regs = true
+
+abbrev pub hundredths_of : Alarm → List ℕ → Bool
+hundredths_of Zero regs = false
+hundredths_of One regs = hundredths_match regs
+
 -- K16, K17, K18, K19. By its code an alarm compares one field, 7 all of them; it is looked at where the finest of them advances (bench).
 -- What code 7 asks beside, and what code 5 compares, are the alarm's own. Other codes never match.
 unfoldable pub alarm_match : Advanced → List ℕ → ℕ → Bool → Bool → Bool
@@ -47,7 +67,7 @@ alarm_match t regs a beside hundredths =
     (pick (eqb code 5) hundredths
     (pick (eqb code 7) (t.seconds && (all_match m && beside)) false))))))
 
--- K17. Alarm 0 has the month beside its fields, and no hundredths; K18. alarm 1 has hundredths, which advance at every such tick.
+-- both alarms
 abbrev pub match0 : Advanced → List ℕ → Bool
 match0 t regs = alarm_match t regs alarm0_at (month_match regs) false
 

@@ -23,6 +23,7 @@ fn time_of(regs: [u8; 32]) -> Time
     }
 }
 
+#[tactic(auto, unfolding(crate::specs::Clock::with_time))]
 fn with_time(regs: [u8; 32], t: Time) -> [u8; 32]
     ensures { result ≡ with_time regs t }
 {
@@ -42,20 +43,18 @@ fn with_time(regs: [u8; 32], t: Time) -> [u8; 32]
 fn hundredth_due(s: u16) -> bool
     ensures { result ≡ hundredth_due s }
 {
-    let n = s as u32;
+    let n = u32::from(s);
     100 * n / DIVIDER_TICKS < 100 * (n + 1) / DIVIDER_TICKS
 }
 
 fn divider_tick(runs: bool, d: Device) -> Device
     ensures { result ≡ divider_tick runs d }
 {
+    let mut next = d;
     if runs {
-        let divider = ((d.counters.divider as u32 + 1) % DIVIDER_TICKS) as u16;
-        let mut next = d;
-        next.counters.divider = divider;
-        return next;
+        next.counters.divider = ((u32::from(d.counters.divider) + 1) % DIVIDER_TICKS) as u16;
     }
-    d
+    next
 }
 
 // Divider and calendar run: ST is set, and the tick is counted.
@@ -66,21 +65,16 @@ pub fn is_running(counted: bool, d: Device) -> bool
 }
 
 // Calendar, then alarms over the registers as it left them.
+#[tactic(auto, using(crate::proofs::ClockLaws::clock_still), unfolding(crate::specs::Clock::calendar_tick))]
 pub fn clock_tick(counted: bool, d: Device) -> Device
     ensures { result ≡ alarm_tick counted d (calendar_tick counted d) }
 {
     let runs = is_running(counted, d);
-    let due = runs & hundredth_due(d.counters.divider);
-    let moved = divider_tick(runs, d);
-    if due {
-        let old = d.regs;
-        let a = calendar::advance(time_of(old));
-        let time = a.time;
-        let stepped = with_time(old, time);
-        let regs = crate::alarm::alarms(a, stepped);
-        let mut next = moved;
+    let mut next = divider_tick(runs, d);
+    if runs & hundredth_due(d.counters.divider) {
+        let a = calendar::advance(time_of(d.regs));
+        let regs = crate::alarm::alarms(a, with_time(d.regs, a.time));
         next.regs = regs;
-        return next;
     }
-    moved
+    next
 }

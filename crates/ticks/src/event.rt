@@ -2,12 +2,14 @@
 ghost use Rattle.std.specs.Prelude.{◌≡◌};
 ghost use Rattle.ticks.specs.Event.{event_tick};
 
+use detect::moment::Moment;
 use record::Device;
+use record::inputs::{inputs_of, with_inputs};
 
+#[tactic(auto, unfolding(crate::specs::Event::event_tick))]
 pub fn event_tick(counted: bool, d: Device) -> Device
     ensures { result ≡ event_tick counted d }
 {
-    let before = record::inputs::inputs_of(d);
-    let after = detect::tick::events_tick(counted, before);
-    record::inputs::with_inputs(d, after)
+    let inputs = inputs_of(d);
+    with_inputs(d, Moment { counted, inputs }.events_tick())
 }

@@ -2,37 +2,27 @@
 ghost use Rattle.std.specs.Prelude.{◌≡◌};
 ghost use Rattle.ticks.specs.Lines.{irq_low, wdo_low, wip, flags_changed, changed};
 
+use crate::alarm::Alarm;
 use detect::control::{EVHIF, EVLIF};
 use record::Device;
-use record::registers::{ALARM_0, ALARM_1, ALM_0, ALM_1, ALM_IF, ALM_PIN, CONTROL, EVENT};
+use record::registers::EVENT;
 
 // IRQ is low.
+#[tactic(auto, unfolding(crate::specs::Lines::irq_low))]
 pub fn irq_low(d: Device) -> bool
     ensures { result ≡ irq_low d }
 {
-    let active = d.regs[CONTROL];
-    let alarm0 = d.regs[ALARM_0];
-    let alarm1 = d.regs[ALARM_1];
-    let flagged0 = (active / ALM_0 % 2 == 1) & (alarm0 / ALM_IF % 2 == 1);
-    let flagged1 = (active / ALM_1 % 2 == 1) & (alarm1 / ALM_IF % 2 == 1);
-    let signalled = detect::control::pulls_irq(d.regs[EVENT]);
-    (flagged0 & !(alarm0 / ALM_PIN % 2 == 1))
-        | (flagged1 & !(alarm1 / ALM_PIN % 2 == 1))
-        | signalled
+    Alarm::Zero.pulls_irq(d.regs)
+        | Alarm::One.pulls_irq(d.regs)
+        | detect::control::pulls_irq(d.regs[EVENT])
 }
 
 // WDO is low.
+#[tactic(auto, unfolding(crate::specs::Lines::wdo_low))]
 pub fn wdo_low(d: Device) -> bool
     ensures { result ≡ wdo_low d }
 {
-    let active = d.regs[CONTROL];
-    let alarm0 = d.regs[ALARM_0];
-    let alarm1 = d.regs[ALARM_1];
-    let flagged0 = (active / ALM_0 % 2 == 1) & (alarm0 / ALM_IF % 2 == 1);
-    let flagged1 = (active / ALM_1 % 2 == 1) & (alarm1 / ALM_IF % 2 == 1);
-    (0 < d.counters.pulse)
-        | (flagged0 & (alarm0 / ALM_PIN % 2 == 1))
-        | (flagged1 & (alarm1 / ALM_PIN % 2 == 1))
+    (0 < d.counters.pulse) | Alarm::Zero.pulls_wdo(d.regs) | Alarm::One.pulls_wdo(d.regs)
 }
 
 // A write cycle runs.
@@ -43,6 +33,7 @@ pub fn in_progress(d: Device) -> bool
 }
 
 // An event's flag is not what it was.
+#[tactic(auto, unfolding(crate::specs::Lines::flags_changed))]
 fn flags_changed(before: u8, after: u8) -> bool
     ensures { result ≡ flags_changed before after }
 {
@@ -51,6 +42,7 @@ fn flags_changed(before: u8, after: u8) -> bool
 }
 
 // IRQ, WDO, an event's flag or WIP is not what it was.
+#[tactic(auto, unfolding(crate::specs::Lines::changed))]
 pub fn lines_changed(before: Device, after: Device) -> bool
     ensures { result ≡ changed before after }
 {

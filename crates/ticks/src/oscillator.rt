@@ -13,15 +13,13 @@ pub fn is_starting(boots: bool, d: Device) -> bool
 }
 
 // The start-up count goes up to 32 while the oscillator is asked to run.
+#[tactic(auto, unfolding(crate::specs::Oscillator::oscillator_tick))]
 pub fn oscillator_tick(boots: bool, d: Device) -> Device
     ensures { result ≡ oscillator_tick boots d }
 {
-    let starts = is_starting(boots, d);
-    if starts {
-        let startup = d.counters.startup + 1;
-        let mut next = d;
-        next.counters.startup = startup;
-        return next;
+    let mut next = d;
+    if is_starting(boots, d) {
+        next.counters.startup += 1;
     }
-    d
+    next
 }

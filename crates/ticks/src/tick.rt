@@ -4,7 +4,7 @@ ghost use Rattle.record.specs.Stored.{protection_after};
 ghost use Rattle.ticks.specs.Tick.{cycle_ended, cycle_device, clockwork, alive};
 ghost use Rattle.ticks.specs.RecordTick.{device_tick};
 
-use record::{Cycle, Device, Guard, Protection, Target};
+use record::{Device, Protection, Target};
 
 // The mask of a cycle that comes to its end: every bit set.
 pub const WHOLE: u8 = 255;
@@ -14,14 +14,8 @@ pub fn protection_after(mask: u8, old: Protection, target: Target) -> Protection
     ensures { result ≡ protection_after mask old target }
 {
     match target {
-        Target::Eeprom(_) => old,
-        Target::Id(_) => old,
-        Target::Status(p) => {
-            if mask % 2 == 1 {
-                return p;
-            }
-            old
-        }
+        Target::Status(p) if mask % 2 == 1 => p,
+        _ => old,
     }
 }
 
@@ -29,45 +23,34 @@ pub fn protection_after(mask: u8, old: Protection, target: Target) -> Protection
 fn cycle_ended(d: Device) -> Device
     ensures { result ≡ cycle_ended d }
 {
-    let g = d.guard;
-    let old = g.protection;
-    let y = d.cycle;
-    let target = y.target;
-    let protection = protection_after(WHOLE, old, target);
-    let lock = g.lock;
-    let guard = Guard {
-        wel: false,
-        protection,
-        lock,
-    };
     let mut next = d;
-    next.guard = guard;
+    next.guard.wel = false;
+    next.guard.protection = protection_after(WHOLE, d.guard.protection, d.cycle.target);
     next.cycle.left = 0;
     next
 }
 
+#[tactic(auto, unfolding(crate::specs::Tick::cycle_device))]
 fn cycle_tick(d: Device) -> Device
     ensures { result ≡ cycle_device d }
 {
-    let left = d.cycle.left;
-    if left == 0 {
-        return d;
+    match d.cycle.left {
+        0 => d,
+        1 => cycle_ended(d),
+        left => {
+            let mut next = d;
+            next.cycle.left = left - 1;
+            next
+        }
     }
-    if left == 1 {
-        return cycle_ended(d);
-    }
-    let less = left - 1;
-    let mut next = d;
-    next.cycle.left = less;
-    next
 }
 
 // Oscillator, watchdog, event inputs, calendar, alarms.
+#[tactic(auto, unfolding(crate::specs::Tick::clockwork))]
 fn clockwork_tick(boots: bool, d: Device) -> Device
     ensures { result ≡ clockwork boots d }
 {
-    let c = d.counters;
-    let counted = record::registers::is_oscon(c);
+    let counted = record::registers::is_oscon(d.counters);
     let asked = crate::oscillator::oscillator_tick(boots, d);
     let watched = crate::watchdog::watchdog_tick(counted, asked);
     let signalled = crate::event::event_tick(counted, watched);
@@ -78,16 +61,15 @@ fn clockwork_tick(boots: bool, d: Device) -> Device
 pub fn is_alive(d: Device) -> bool
     ensures { result ≡ alive d }
 {
-    let regs = d.regs;
-    d.power | record::registers::battery_enabled(regs)
+    d.power | record::registers::battery_enabled(d.regs)
 }
 
 // With power off and VBATEN clear nothing counts.
+#[tactic(auto, unfolding(crate::specs::RecordTick::device_tick))]
 pub fn device_tick(boots: bool, d: Device) -> Device
     ensures { result ≡ device_tick boots d }
 {
-    let alive = is_alive(d);
-    if alive {
+    if is_alive(d) {
         return clockwork_tick(boots, cycle_tick(d));
     }
     d

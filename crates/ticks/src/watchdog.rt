@@ -3,19 +3,15 @@ ghost use Rattle.std.specs.Prelude.{◌≡◌};
 ghost use Rattle.ticks.specs.Watchdog.{counting, pulse_tick, time_out, counted_tick, watchdog_tick};
 
 use record::Device;
-use record::registers::{LONG_PULSE, SHORT_PULSE, WATCHDOG, WDTEN, WDTIF, WDTPLS};
+use record::registers::{LONG_PULSE, SHORT_PULSE, WATCHDOG, WDTEN, WDTIF, WDTPLS, period};
 
 // A pulse that runs loses one at every tick.
 fn pulse_tick(d: Device) -> Device
     ensures { result ≡ pulse_tick d }
 {
-    if 0 < d.counters.pulse {
-        let pulse = d.counters.pulse - 1;
-        let mut next = d;
-        next.counters.pulse = pulse;
-        return next;
-    }
-    d
+    let mut next = d;
+    next.counters.pulse = d.counters.pulse.saturating_sub(1);
+    next
 }
 
 // The count came to its period: the flag is set and WDO pulses.
@@ -26,11 +22,11 @@ fn time_out(d: Device) -> Device
     let mut next = d;
     next.regs[WATCHDOG] = v | WDTIF;
     next.counters.watchdog = 0;
-    if v / WDTPLS % 2 == 1 {
-        next.counters.pulse = LONG_PULSE;
-        return next;
-    }
-    next.counters.pulse = SHORT_PULSE;
+    next.counters.pulse = if v / WDTPLS % 2 == 1 {
+        LONG_PULSE
+    } else {
+        SHORT_PULSE
+    };
     next
 }
 
@@ -40,14 +36,11 @@ fn counted_tick(d: Device) -> Device
 {
     let mut next = d;
     if 0 < d.counters.delay {
-        let delay = d.counters.delay - 1;
-        next.counters.delay = delay;
+        next.counters.delay -= 1;
         return next;
     }
-    let most = record::registers::period(d.regs[WATCHDOG]);
-    if d.counters.watchdog < most - 1 {
-        let count = d.counters.watchdog + 1;
-        next.counters.watchdog = count;
+    if d.counters.watchdog < period(d.regs[WATCHDOG]) - 1 {
+        next.counters.watchdog += 1;
         return next;
     }
     time_out(d)
@@ -60,12 +53,12 @@ pub fn is_counting(counted: bool, v: u8) -> bool
     ((v / WDTEN % 2 == 1) & !(v / WDTIF % 2 == 1)) & counted
 }
 
+#[tactic(auto, unfolding(crate::specs::Watchdog::watchdog_tick))]
 pub fn watchdog_tick(counted: bool, d: Device) -> Device
     ensures { result ≡ watchdog_tick counted d }
 {
     let pulsed = pulse_tick(d);
-    let counts = is_counting(counted, d.regs[WATCHDOG]);
-    if counts {
+    if is_counting(counted, d.regs[WATCHDOG]) {
         return counted_tick(pulsed);
     }
     pulsed

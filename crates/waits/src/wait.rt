@@ -14,12 +14,12 @@ pub struct Waited {
 pub fn wait_device(boots: bool, n: u64, d: Device) -> Waited
     ensures { (result.used ≡ (device_waited boots n d).used) × (result.device ≡ (device_waited boots n d).after) }
 {
-    let alive = ticks::tick::is_alive(d);
-    if !alive {
+    if !ticks::tick::is_alive(d) {
         return Waited { used: n, device: d };
     }
     let mut now_device = d;
     let mut left = n;
+    // Kept, a countdown: a turn takes one tick or many, so that no range or iterator has its turns.
     while 0 < left {
         let k = quiet_ticks(boots, left, now_device);
         if 0 < k {

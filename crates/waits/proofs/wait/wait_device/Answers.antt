@@ -3,21 +3,20 @@
 -- Assumes nothing.
 use mathlib.Core.Path.{sym, ◌∙◌}
 use native.Mathlib.Omega.{arith}
-use borrow.Author.Tests.{not-true, not-false}
 use Rattle.ticks.proofs.TickLaws.{device_alive}
 use Rattle.base.proofs.WaitLaws.{loop_starts, loop_goes, loop_stops, loop_ends, loop_jumps}
 use Rattle.waits.proofs.JumpLaws.{wait_passes}
 use Rattle.waits.proofs.TurnLaws.{quiet_got, quiet_within, jumped_alive, device_wait_dead}
 use Rattle.waits.proofs.wait.wait_device.Goals as goal
 
-pub returns-then-not-alive : goal.returns-then-not-alive
-returns-then-not-alive c =
+pub returns-then-not-is_alive : goal.returns-then-not-is_alive
+returns-then-not-is_alive c =
     let a = c.args in
-    let r = device_wait_dead a.boots a.n a.d (sym c.is_alive-alive.ensures ∙ c.if-not-alive.true) in
+    let r = device_wait_dead a.boots a.n a.d (sym c.is_alive.ensures ∙ c.if-not-is_alive.true) in
     (simp r, simp r)
 
 pub loop-left-init : goal.loop-left-init
-loop-left-init c = (omega arith, sym c.is_alive-alive.ensures ∙ c.if-not-alive.false, loop_starts _ _ _ _)
+loop-left-init c = (omega arith, sym c.is_alive.ensures ∙ c.if-not-is_alive.false, loop_starts _ _ _ _)
 
 pub jump-now_device-requires : goal.jump-now_device-requires
 jump-now_device-requires c = quiet_got _ _ _ c.loop-left.invariant.1 c.quiet_ticks-k.ensures c.if-k-gt0.true
