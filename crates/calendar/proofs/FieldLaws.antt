@@ -2,14 +2,15 @@
 -- Assumes nothing.
 use mathlib.Core.Path.{◌≡◌}
 use mathlib.Core.Bool.{Bool, true, false, ◌&&◌}
-use Prim.Native.Nat.{ℕ, ◌+◌, ◌/◌, ◌%◌, ◌<◌, ◌≤◌}
+use Prim.Native.Nat.{ℕ, ◌+◌, ◌*◌, ◌/◌, ◌%◌, ◌<◌, ◌≤◌}
 use native.Mathlib.Omega.{arith}
 use borrow.Author.Tests.{leb-true, le-leb, ltb-true, eqb-true, eqb-false}
 use lib.Dec.{leb, ltb, eqb}
 use Rattle.base.specs.Words.{is_bcd, bcd_value, bcd_byte}
 use Rattle.base.proofs.Tests.{by_cases, both_left, both_right, pick_when}
 use Rattle.calendar.specs.declared.Step.{Step}
-use Rattle.calendar.specs.Field.{valid_field, next_field, on_carry}
+use Rattle.calendar.specs.Field.{valid_field, next_field, on_carry, beside}
+use Rattle.std.proofs.lemmas.Nat.{div-add-mod', div_below, mul-le}
 
 -- K7. What is known of a valid value: its two digits, and where it lies.
 pub record Valid (first last x : ℕ) : Type 0 where
@@ -55,7 +56,7 @@ pub next_valid :
     (first last x : ℕ) → Valid first last first → Valid first last last → Valid first last (next_field first last x).value
 unfolding next_field
 next_valid first last x f l =
-    pick_when (λ (s : Step). Valid first last s.value) (valid_field first last x && ltb x last)
+    pick_when (λ (s : Step ℕ). Valid first last s.value) (valid_field first last x && ltb x last)
     (λ e.
     let v : Valid first last x = valid_is first last x (both_left (valid_field first last x) (ltb x last) e) in
     let h : x < last = ltb-true x last (both_right (valid_field first last x) (ltb x last) e) in
@@ -73,6 +74,14 @@ pub next_byte :
 next_byte first last x f l = let v = next_valid first last x f l in omega arith
 
 -- a field that may have moved is below a bound of both
-pub on_carry_below : (n : ℕ) (carry : Bool) (x : ℕ) (s : Step) → x < n → s.value < n → (on_carry carry x s).value < n
+pub on_carry_below : (n : ℕ) (carry : Bool) (x : ℕ) (s : Step ℕ) → x < n → s.value < n → (on_carry carry x s).value < n
 on_carry_below n true x s p q = q
 on_carry_below n false x s p q = p
+
+-- K9. A byte with another value in a field of whole bits is a byte.
+pub beside_byte : (w b v : ℕ) → 0 < w → 256 % w ≡ 0 → b < 256 → beside w b v < 256
+beside_byte w b v p z h =
+    let m : 256 / w * w ≡ 256 = omega (arith, div-add-mod' 256 w) in
+    let q : b / w < 256 / w = div_below b w (256 / w) p (omega arith) in
+    let r : (b / w + 1) * w ≤ 256 / w * w = mul-le (b / w + 1) w (256 / w) w (omega arith) (omega arith) in
+    omega (arith, div-add-mod' b w)

@@ -36,7 +36,7 @@ pub record Control (t u : Time) : Type 0 where
 
 -- a field that moved beside its control bits, or stayed
 on_carry_beside :
-    (w : ℕ) (carry : Bool) (b : ℕ) (s : Step)
+    (w : ℕ) (carry : Bool) (b : ℕ) (s : Step ℕ)
     → beside w b s.value / w ≡ b / w
     → (on_carry carry b (beside_step w b s)).value / w ≡ b / w
 on_carry_beside w true b s e = e
@@ -47,7 +47,7 @@ clock_control : (t : Time) → Control t (clock_advanced t)
 unfolding next_hours
 clock_control t =
     let b : ℕ = t.hours in
-    let s : Step = pick (twelve_hour b) (next_twelve (b % 64)) (next_in hours (b % 64)) in
+    let s : Step ℕ = pick (twelve_hour b) (next_twelve (b % 64)) (next_in hours (b % 64)) in
     record {
       hundredths = next_byte hundredths.first hundredths.last t.hundredths (omega arith) (omega arith);
       seconds = on_carry_beside 128 (hundredths_step t).carry t.seconds (next_in seconds (t.seconds % 128)) (omega arith);
@@ -59,7 +59,7 @@ clock_control t =
       year = λ h. h;
     }
 
-next_year_byte : (d : Date) → d.year < 256 → (next_date d).date.year < 256
+next_year_byte : (d : Date) → d.year < 256 → (next_date d).value.year < 256
 unfolding next_date
 next_year_byte d h =
     on_carry_below 256 (month_step d).carry d.year (next_in years d.year) h

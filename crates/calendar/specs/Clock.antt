@@ -15,7 +15,7 @@ valid_hundredths b = valid_in hundredths b
 abbrev pub first_hundredths : ℕ → ℕ
 first_hundredths b = hundredths.first
 
-abbrev pub next_hundredths : ℕ → Step
+abbrev pub next_hundredths : ℕ → Step ℕ
 next_hundredths b = next_in hundredths b
 
 -- K7, K8, K9, E9. Seconds are 00 to 59, in bits 6:0; bit 7, ST, stays.
@@ -28,7 +28,7 @@ valid_seconds b = valid_in seconds (b % 128)
 abbrev pub first_seconds : ℕ → ℕ
 first_seconds b = beside 128 b seconds.first
 
-abbrev pub next_seconds : ℕ → Step
+abbrev pub next_seconds : ℕ → Step ℕ
 next_seconds b = beside_step 128 b (next_in seconds (b % 128))
 
 -- Minutes are as seconds; bit 7 of 02h is no bit of the chip, and stays too.
@@ -38,5 +38,5 @@ valid_minutes b = valid_seconds b
 abbrev pub first_minutes : ℕ → ℕ
 first_minutes b = first_seconds b
 
-abbrev pub next_minutes : ℕ → Step
+abbrev pub next_minutes : ℕ → Step ℕ
 next_minutes b = next_seconds b

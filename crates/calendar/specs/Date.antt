@@ -5,7 +5,6 @@ use Rattle.std.specs.Prelude.{ℕ, ◌%◌, Bool, not, ◌&&◌, ◌||◌, eqb}
 use Rattle.base.specs.Words.{pick, bcd_value}
 use Rattle.calendar.specs.declared.Step.{Step}
 use Rattle.calendar.specs.declared.Date.{Date}
-use Rattle.calendar.specs.declared.DateStep.{DateStep}
 use Rattle.calendar.specs.Field.{Limits, limits, valid_in, next_in, on_carry}
 
 -- K8. The day of the week is 1 to 7, the month 01 to 12, the year 00 to 99.
@@ -54,23 +53,23 @@ abbrev pub valid_date : ℕ → ℕ → ℕ → Bool
 valid_date month year x = valid_in (dates month year) x
 
 -- K10, K11. Day and date step together, the month where the date carried, the year where the month did. No field reads the day's carry.
-abbrev pub day_step : Date → Step
+abbrev pub day_step : Date → Step ℕ
 day_step d = next_in days d.day
 
-abbrev pub date_step : Date → Step
+abbrev pub date_step : Date → Step ℕ
 date_step d = next_in (dates d.month d.year) d.date
 
-abbrev pub month_step : Date → Step
+abbrev pub month_step : Date → Step ℕ
 month_step d = on_carry (date_step d).carry d.month (next_in months d.month)
 
-abbrev pub year_step : Date → Step
+abbrev pub year_step : Date → Step ℕ
 year_step d = on_carry (month_step d).carry d.year (next_in years d.year)
 
 -- K10. The date's step, whose carry is the year's.
-unfoldable pub next_date : Date → DateStep
+unfoldable pub next_date : Date → Step Date
 next_date d =
     record {
-      date =
+      value =
           record { day = (day_step d).value; date = (date_step d).value; month = (month_step d).value; year = (year_step d).value };
       carry = (year_step d).carry;
     }

@@ -10,7 +10,7 @@ unfoldable pub valid_field : ℕ → ℕ → ℕ → Bool
 valid_field first last x = is_bcd x && (leb first x && leb x last)
 
 -- K8 (bench). The step of a field: one further where the value is valid and not the last; else to the first, with a carry.
-unfoldable pub next_field : ℕ → ℕ → ℕ → Step
+unfoldable pub next_field : ℕ → ℕ → ℕ → Step ℕ
 next_field first last x =
     pick (valid_field first last x && ltb x last)
     (record { value = bcd_byte (bcd_value x + 1); carry = false })
@@ -28,11 +28,11 @@ limits first last = record { first = first; last = last }
 abbrev pub valid_in : Limits → ℕ → Bool
 valid_in l x = valid_field l.first l.last x
 
-abbrev pub next_in : Limits → ℕ → Step
+abbrev pub next_in : Limits → ℕ → Step ℕ
 next_in l x = next_field l.first l.last x
 
 -- K10. A field moves only where the one before it carried; else it stays, and carries nothing.
-abbrev pub on_carry : Bool → ℕ → Step → Step
+abbrev pub on_carry : Bool → ℕ → Step ℕ → Step ℕ
 on_carry carry x next = pick carry next (record { value = x; carry = false })
 
 -- K9. The byte b with v in its field, which is its bits below `width`, a power of two; the control bits above it are those of b.
@@ -40,5 +40,5 @@ abbrev pub beside : ℕ → ℕ → ℕ → ℕ
 beside width b v = b - b % width + v % width
 
 -- K9. The same of a field's step.
-abbrev pub beside_step : ℕ → ℕ → Step → Step
+abbrev pub beside_step : ℕ → ℕ → Step ℕ → Step ℕ
 beside_step width b s = record { value = beside width b s.value; carry = s.carry }

@@ -34,7 +34,7 @@ abbrev pub twelve_first : ℕ
 twelve_first = twelve_of_hour 0
 
 -- K8, K15 (bench). As the step of a field, with 12 AM as its first value and 11 PM as its last.
-abbrev pub next_twelve : ℕ → Step
+abbrev pub next_twelve : ℕ → Step ℕ
 next_twelve f =
     pick (valid_twelve f && ltb (hour_of_twelve f) 23)
     (record { value = twelve_of_hour (hour_of_twelve f + 1); carry = false })
@@ -49,5 +49,5 @@ unfoldable pub first_hours : ℕ → ℕ
 first_hours b = beside 64 b (pick (twelve_hour b) twelve_first hours.first)
 
 -- K9, K14, E6, E7, E8, E23. The step of the byte in its format; CALSGN and 12/24 stay.
-unfoldable pub next_hours : ℕ → Step
+unfoldable pub next_hours : ℕ → Step ℕ
 next_hours b = beside_step 64 b (pick (twelve_hour b) (next_twelve (b % 64)) (next_in hours (b % 64)))

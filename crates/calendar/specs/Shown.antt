@@ -11,7 +11,7 @@ use Rattle.calendar.specs.Date.{valid_day, valid_month, valid_year, leap_year, m
 use Rattle.calendar.specs.Time.{date_of, with_date, on_day, advanced}
 
 -- the values of n steps from b on, and after each whether it carried
-abbrev walk : (ℕ → Step) → ℕ → ℕ → List ℕ
+abbrev walk : (ℕ → Step ℕ) → ℕ → ℕ → List ℕ
 walk next zero b = []
 walk next (suc n) b = (next b).value ∷ flag (next b).carry ∷ walk next n (next b).value
 

@@ -1,7 +1,7 @@
 -- C6. What the calendar promises: the eight time bytes, 00h to 07h with their control bits, after one advance of the hundredths,
 -- and how far it carried. At which tick the hundredths advance is not said here.
 -- Assumes nothing.
-use Rattle.std.specs.Prelude.{◌%◌, Bool}
+use Rattle.std.specs.Prelude.{ℕ, ◌%◌, Bool}
 use Rattle.base.specs.Words.{pick}
 use Rattle.calendar.specs.declared.Step.{Step}
 use Rattle.calendar.specs.declared.Date.{Date}
@@ -32,19 +32,19 @@ with_date t d =
 
 -- K10. The date in the registers moves only where the hours carried.
 unfoldable pub on_day : Bool → Time → Time
-on_day carry t = pick carry (with_date t (next_date (date_of t)).date) t
+on_day carry t = pick carry (with_date t (next_date (date_of t)).value) t
 
 -- K10. The clock's fields, in the order of their carries. Hundredths always advance; each other field where the one before it carried.
-abbrev pub hundredths_step : Time → Step
+abbrev pub hundredths_step : Time → Step ℕ
 hundredths_step t = next_hundredths t.hundredths
 
-abbrev pub seconds_step : Time → Step
+abbrev pub seconds_step : Time → Step ℕ
 seconds_step t = on_carry (hundredths_step t).carry t.seconds (next_seconds t.seconds)
 
-abbrev pub minutes_step : Time → Step
+abbrev pub minutes_step : Time → Step ℕ
 minutes_step t = on_carry (seconds_step t).carry t.minutes (next_minutes t.minutes)
 
-abbrev pub hours_step : Time → Step
+abbrev pub hours_step : Time → Step ℕ
 hours_step t = on_carry (minutes_step t).carry t.hours (next_hours t.hours)
 
 -- the registers after these four, before the date

@@ -70,13 +70,13 @@ impl Alarm {
         regs[self.flag_at()] / ALM_PIN % 2 == 1
     }
 
-    pub fn pulls_irq(self, regs: [u8; 32]) -> bool
+    pub(crate) fn pulls_irq(self, regs: [u8; 32]) -> bool
         ensures { result ≡ (flagged regs (bit_of self) (flag_at self) && not (alm_pin regs (flag_at self))) }
     {
         self.is_flagged(regs) & !self.is_on_wdo(regs)
     }
 
-    pub fn pulls_wdo(self, regs: [u8; 32]) -> bool
+    pub(crate) fn pulls_wdo(self, regs: [u8; 32]) -> bool
         ensures { result ≡ (flagged regs (bit_of self) (flag_at self) && alm_pin regs (flag_at self)) }
     {
         self.is_flagged(regs) & self.is_on_wdo(regs)
