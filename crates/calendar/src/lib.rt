@@ -214,7 +214,7 @@ pub fn leap(year: u8) -> bool
 // K12. The length of what is no month.
 const NO_MONTH: u8 = 0x31;
 
-// K12. The length of each month of a common year, in BCD, by the month's field.
+// K12. The length of each month of a common year, in BCD, by the month's field. Kept, a table: D173.
 const LENGTHS: [u8; 32] = [
     NO_MONTH, // 00h
     0x31, // January

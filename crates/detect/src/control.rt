@@ -41,7 +41,7 @@ pub fn high_runs(counted: bool, v: u8) -> bool
     ((v / 32 % 2 == 1) & !(v / 128 % 2 == 1)) & counted
 }
 
-// EVEN0 set, EVLIF clear, counted.
+// EVEN0 set, EVLIF clear, counted. Kept beside `high_runs`: one test each, and a common one would be told both bits.
 pub fn low_runs(counted: bool, v: u8) -> bool
     ensures { result ≡ low_runs counted v }
 {

@@ -29,7 +29,7 @@ impl Moment {
         next
     }
 
-    // The debounce runs.
+    // The debounce runs. Kept beside `window_runs`: one test each, of two fields.
     pub fn debounce_runs(self) -> bool
         ensures { result ≡ debounce_runs self.counted self.inputs }
     {

@@ -1,4 +1,5 @@
-// What WRITE does at an address of the clock block.
+// What WRITE does at an address of the clock block. Kept, `boots`, the device and the address side by side: three functions hand them on, and a struct of
+// them would be made for that alone.
 ghost use Rattle.std.specs.Prelude.{◌≡◌, ◌<◌};
 ghost use Rattle.registers.specs.Write.{delay_after, day_written, after_write, under_mask, write_register, write_clock};
 

@@ -1,6 +1,5 @@
 pub mod LineLaws
 pub mod AlarmLaws
-pub mod WatchdogLaws
 pub mod ClockLaws
 pub mod KeepLaws
 pub mod RangeLaws

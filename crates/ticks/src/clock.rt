@@ -8,6 +8,7 @@ use record::registers::{
     DATE, DAY, DIVIDER_TICKS, HOURS, HUNDREDTHS, MINUTES, MONTH, SECONDS, ST, YEAR,
 };
 
+// Kept, no From: neither type is this crate's.
 fn time_of(regs: [u8; 32]) -> Time
     ensures { result ≡ time_of regs }
 {

@@ -1,6 +1,7 @@
 #![tactic(auto)]
 
 // The chip's ticks and its output lines, as functions of its record. The calendar is known by its promise alone.
+// Kept, `boots` and `counted` beside a device: the part tells the one, the device before the tick the other, and the type is the record's.
 pub mod lines; // lines.rt: IRQ, WDO, WIP
 pub mod alarm; // alarm.rt: which alarm matches, and its flag
 pub mod oscillator; // oscillator.rt: the start-up count
