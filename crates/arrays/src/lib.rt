@@ -327,7 +327,7 @@ fn put_front(part: u8, regs: [u8; 32], sram: [u8; 64], into: &mut [u8]) -> usize
     requires { 0 + length (((part ∷ []) ++ regs) ++ sram) ≤ length into.old }
     ensures { buffer into.new result ≡ append (buffer into.old 0) (((part ∷ []) ++ regs) ++ sram) }
 {
-    let a = buffer::put_byte(part, into, 0);
+    let a = buffer::put_one(part, into, 0);
     let b = buffer::put(&regs, into, a);
     buffer::put(&sram, into, b)
 }

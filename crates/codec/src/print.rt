@@ -58,7 +58,7 @@ fn put_field(word: &[u8], out: Option<u64>, into: &mut [u8], at: usize) -> usize
 {
     let a = buffer::put(word, into, at);
     let Some(n) = out else {
-        return buffer::put_byte(b'z', into, a);
+        return buffer::put_one(b'z', into, a);
     };
     decimal::put_decimal(n, into, a)
 }
@@ -79,5 +79,5 @@ pub fn put_answer(
     let b = put_field(b" out=", out, into, a);
     let c = put_field(b" irq=", level(irq), into, b);
     let d = put_field(b" wdo=", level(wdo), into, c);
-    buffer::put_byte(b'\n', into, d)
+    buffer::put_one(b'\n', into, d)
 }

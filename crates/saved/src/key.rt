@@ -75,5 +75,5 @@ pub fn put_head(row: Row, i: u64, into: &mut [u8; HEAD_LIMIT]) -> usize
     let numbered = is_numbered(row);
     let a = buffer::put(key, into, 0);
     let b = put_index(numbered, i, into, a);
-    buffer::put_byte(b'=', into, b)
+    buffer::put_one(b'=', into, b)
 }

@@ -21,7 +21,7 @@ fn put_numbers(numbers: &[u64], from: usize, width: usize, into: &mut [u8], at: 
     for j in 0..width {
         let digits = decimal::put_decimal(numbers[from + j], into, end);
         let mark = scan::mark_after(j, width);
-        end = buffer::put_byte(mark, into, digits);
+        end = buffer::put_one(mark, into, digits);
     }
     end
 }

@@ -2,58 +2,45 @@
 -- words: what is found stands beside the word, and where no word stands twice a word finds what stands beside it.
 -- Assumes nothing.
 use mathlib.Core.Path.{◌≡◌, refl, sym, ap, ◌∙◌}
-use mathlib.Core.Bool.{Bool, true, false, not}
+use mathlib.Core.Bool.{Bool, true, false, not, true≢false}
 use mathlib.Core.List.{List, [], ◌∷◌, ◌++◌, append-nil}
 use mathlib.Core.Logic.{inl, inr, ⊎_elim}
 use Prim.Native.Nat.{ℕ, suc, ◌+◌, ◌<◌, ◌≤◌, suc-le-suc}
 use Prim.Native.String.{String}
 use native.Mathlib.Nat.{zero-add, suc-add, not-suc-le-zero, le_of_suc-le-suc, suc-ne-zero, suc_inj}
-use native.Mathlib.Numerals.{add-one}
 use native.Mathlib.Omega.{arith}
-use borrow.Author.Tests.{eq-eqb, eqb-true, not-true}
+use borrow.Author.Tests.{eq-eqb, ne_eqb, eqb-true, not-true}
 use lib.Dec.{eqb}
-use lib.ListN.{length, get_or, drop, take, drop_of_length-le, length-append}
-use lib.Seq.{drop-cons, drop-length}
+use lib.ListN.{length, get_or, drop, take, length-append}
+use lib.Seq.{drop-length}
 use Rattle.base.proofs.Tests.{by_cases, yes, no, pick_case, both_left, both_right, both_true}
+use lib.Pointwise.{pointwise}
+use Rattle.std.specs.Bool.{one_answer}
+use Rattle.std.proofs.lemmas.Slice.Eq.{slice_eq-Decides}
+use Rattle.std.proofs.lemmas.Bool.Decides.{Decides-eqb}
 use Rattle.std.specs.Prelude.{Some, None}
+use Rattle.std.specs.List.{prefix_len, zip}
 use Rattle.text.specs.Bytes.{bytes_of, agreed, begins, is_word, leading, found, Listed, all_rows, apart}
 
--- one more byte that agrees, the first that does not, and no more bytes
-pub agreed_more :
-    (word s : List ℕ) (i : ℕ) → i < length word → i < length s → eqb (get_or s i 0) (get_or word i 0) ≡ true
-    → i + agreed (drop i word) (drop i s) ≡ (i + 1) + agreed (drop (i + 1) word) (drop (i + 1) s)
-unfolding agreed
-agreed_more word s i h k e = rw (add-one, drop-cons word i 0, drop-cons s i 0) (simp e (omega arith))
+one_more : {m n : ℕ} → m ≡ n → suc m ≡ 1 + n
+one_more e = omega arith
 
-pub agreed_stops :
-    (word s : List ℕ) (i : ℕ) → i < length word → i < length s → eqb (get_or s i 0) (get_or word i 0) ≡ false
-    → i + agreed (drop i word) (drop i s) ≡ i
-unfolding agreed
-agreed_stops word s i h k e = rw (drop-cons word i 0, drop-cons s i 0) (simp e (omega arith))
+-- both as the library counts them
+abbrev pub same_bytes : ℕ × ℕ → Bool
+same_bytes p = eqb p.0 p.1
 
-pub agreed_short : (word s : List ℕ) (i : ℕ) → i < length word → length s ≤ i → i + agreed (drop i word) (drop i s) ≡ i
+pub agreed_prefix : (word s : List ℕ) → agreed word s ≡ prefix_len same_bytes (zip word s)
 unfolding agreed
-agreed_short word s i h k = rw (drop-cons word i 0, drop_of_length-le s {i = i} k) (omega arith)
+agreed_prefix [] s = refl
+agreed_prefix (w ∷ word) [] = refl
+agreed_prefix (w ∷ word) (b ∷ s) =
+    by_cases (eqb b w) (λ t. simp (t, eq-eqb w b (sym (eqb-true b w t))) (one_more (agreed_prefix word s)))
+    (λ f. simp (f, ne_eqb w b (λ e. true≢false (sym (eq-eqb b w (sym e)) ∙ f))))
 
-pub agreed_whole : (word s : List ℕ) (i : ℕ) → i ≡ length word → i + agreed (drop i word) (drop i s) ≡ i
-unfolding agreed
-agreed_whole word s i e = rw (e, drop-length) (omega arith)
-
--- the same of leading bytes of a kind
-pub leading_more :
-    (kind : ℕ → Bool) (s : List ℕ) (i : ℕ) → i < length s → kind (get_or s i 0) ≡ true
-    → i + leading kind (drop i s) ≡ (i + 1) + leading kind (drop (i + 1) s)
+pub leading_prefix : (kind : ℕ → Bool) (s : List ℕ) → leading kind s ≡ prefix_len kind s
 unfolding leading
-leading_more kind s i h e = rw (add-one, drop-cons s i 0) (simp e (omega arith))
-
-pub leading_stops :
-    (kind : ℕ → Bool) (s : List ℕ) (i : ℕ) → i < length s → kind (get_or s i 0) ≡ false → i + leading kind (drop i s) ≡ i
-unfolding leading
-leading_stops kind s i h e = rw (drop-cons s i 0) (simp e (omega arith))
-
-pub leading_whole : (kind : ℕ → Bool) (s : List ℕ) (i : ℕ) → i ≡ length s → i + leading kind (drop i s) ≡ i
-unfolding leading
-leading_whole kind s i e = rw (e, drop-length) (omega arith)
+leading_prefix kind [] = refl
+leading_prefix kind (b ∷ s) = by_cases (kind b) (λ t. simp t (one_more (leading_prefix kind s))) (λ f. simp f)
 
 -- how far the leading bytes go
 pub leading_within : (kind : ℕ → Bool) (s : List ℕ) → leading kind s ≤ length s
@@ -138,6 +125,12 @@ none_not_some e = cc
 
 some_same : {A : Type 0} {x y : A} → Some x ≡ Some y → x ≡ y
 some_same e = cc
+
+-- slices are equal exactly where the test says so
+pub same_word : (word s : List ℕ) (r : Bool) → r ≡ pointwise eqb word s → r ≡ is_word word s
+same_word word s r e =
+    let d = slice_eq-Decides Decides-eqb word s r e in
+    one_answer r (is_word word s) d (λ t. sym (is_word_lem word s t), λ q. word_is word s (sym q))
 
 -- what is found stands beside the word
 pub found_listed : {A : Type 0} (rows : List (String × A)) (s : List ℕ) (x : A) → found rows s ≡ Some x → Listed rows s x

@@ -1,4 +1,4 @@
-// Bytes put into a lent buffer. Each function answers the place after what it put.
+// Elements put into a lent buffer: bytes, or numbers. Each function answers the place after what it put.
 ghost use Rattle.std.specs.Prelude.{◌≡◌, [], ◌∷◌, ◌+◌, ◌-◌, ◌≤◌, length};
 ghost use Rattle.text.specs.Buffer.{buffer, append};
 
@@ -6,28 +6,22 @@ ghost use Rattle.text.specs.Buffer.{buffer, append};
 pub fn room(n: usize, at: usize) -> usize
     ensures { result ≡ n - at }
 {
-    if at < n {
-        return n - at;
-    }
-    0
+    n.saturating_sub(at)
 }
 
-pub fn put_byte(b: u8, into: &mut [u8], at: usize) -> usize
+pub fn put_one<T: Copy>(item: T, into: &mut [T], at: usize) -> usize
     requires { at + 1 ≤ length into.old }
-    ensures { buffer into.new result ≡ append (buffer into.old at) (b ∷ []) }
+    ensures { buffer into.new result ≡ append (buffer into.old at) (item ∷ []) }
 {
-    into[at] = b;
+    into[at] = item;
     at + 1
 }
 
-pub fn put(text: &[u8], into: &mut [u8], at: usize) -> usize
-    requires { at + length text.now ≤ length into.old }
-    ensures { buffer into.new result ≡ append (buffer into.old at) text.now }
+pub fn put<T: Copy>(items: &[T], into: &mut [T], at: usize) -> usize
+    requires { at + length items.now ≤ length into.old }
+    ensures { buffer into.new result ≡ append (buffer into.old at) items.now }
 {
-    let mut i: usize = 0;
-    while i < text.len() {
-        into[at + i] = text[i];
-        i += 1;
-    }
-    at + i
+    let end = at + items.len();
+    into[at..end].copy_from_slice(items);
+    end
 }

@@ -11,31 +11,22 @@ const READ_LIMIT: usize = 16;
 pub fn needless_zero(s: &[u8]) -> bool
     ensures { result ≡ needless_zero s.now }
 {
-    if 1 < s.len() {
-        return s[0] == b'0';
-    }
-    false
+    matches!(s, [b'0', _, ..])
 }
 
 fn digit_value(b: u8) -> u64
     ensures { result ≡ digit_value b }
 {
-    if b < b'0' {
-        return 0;
-    }
-    (b - b'0') as u64
+    u64::from(b.saturating_sub(b'0'))
 }
 
 // The value of digits; of more than are read, that of the first.
 pub fn value_of(digits: &[u8]) -> u64
     ensures { result ≡ value_of (take read_limit digits.now) }
 {
-    let read = bytes::first(digits, READ_LIMIT);
     let mut value: u64 = 0;
-    let mut i: usize = 0;
-    while i < read.len() {
-        value = value * 10 + digit_value(read[i]);
-        i += 1;
+    for b in bytes::first(digits, READ_LIMIT) {
+        value = value * 10 + digit_value(*b);
     }
     value
 }
@@ -46,10 +37,10 @@ fn put_digits(n: u64, into: &mut [u8], at: usize) -> usize
     ensures { buffer into.new result ≡ append (buffer into.old at) (decimal_text n) }
 {
     if n < 10 {
-        return buffer::put_byte(b'0' + (n as u8), into, at);
+        return buffer::put_one(b'0' + (n as u8), into, at);
     }
     let end = put_digits(n / 10, into, at);
-    buffer::put_byte(b'0' + ((n % 10) as u8), into, end)
+    buffer::put_one(b'0' + ((n % 10) as u8), into, end)
 }
 
 // A number's decimal. Most numbers that are shown have one digit, and that takes no call.
@@ -58,7 +49,7 @@ pub fn put_decimal(n: u64, into: &mut [u8], at: usize) -> usize
     ensures { buffer into.new result ≡ append (buffer into.old at) (decimal_text n) }
 {
     if n < 10 {
-        return buffer::put_byte(b'0' + (n as u8), into, at);
+        return buffer::put_one(b'0' + (n as u8), into, at);
     }
     put_digits(n, into, at)
 }

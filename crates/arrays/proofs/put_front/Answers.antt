@@ -10,18 +10,18 @@ put-b-requires c =
     let a = c.args in
     let o = buffer a.into.now 0 in
     let p = a.part ∷ [] in
-    room_then o p a.regs c.put_byte-a.ensures (room_before 0 (p ++ a.regs) a.sram c.requires)
+    room_then o p a.regs c.put_one-a.ensures (room_before 0 (p ++ a.regs) a.sram c.requires)
 
 pub put-requires : goal.put-requires
 put-requires c =
     let a = c.args in
     let o = buffer a.into.now 0 in
     let p = a.part ∷ [] in
-    room_then o (p ++ a.regs) a.sram (put_then o p a.regs c.put_byte-a.ensures c.put-b.ensures) c.requires
+    room_then o (p ++ a.regs) a.sram (put_then o p a.regs c.put_one-a.ensures c.put-b.ensures) c.requires
 
 pub returns : goal.returns
 returns c =
     let a = c.args in
     let o = buffer a.into.now 0 in
     let p = a.part ∷ [] in
-    put_then o (p ++ a.regs) a.sram (put_then o p a.regs c.put_byte-a.ensures c.put-b.ensures) c.put.ensures
+    put_then o (p ++ a.regs) a.sram (put_then o p a.regs c.put_one-a.ensures c.put-b.ensures) c.put.ensures

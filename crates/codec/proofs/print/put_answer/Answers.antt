@@ -31,8 +31,8 @@ put_field-d-requires c =
     level_room 27 (buffer c.put_field-b.new.into c.put_field-b.result) irq_word c.args.irq c.level.ensures c.put_field-c.ensures.0 (omega arith) two in
     omega (arith, three)
 
-pub put_byte-requires : goal.put_byte-requires
-put_byte-requires c =
+pub put_one-requires : goal.put_one-requires
+put_one-requires c =
     let two = second c.args.number (buffer c.args.into.now c.args.at) c.put_field-b.new.into c.put_field-a.ensures.0 c.put_field-a.auto.into c.ranges.number.fits c.requires c.put_field-b.ensures.1 c.put_field-b.auto.into in
     let three =
     level_room 27 (buffer c.put_field-b.new.into c.put_field-b.result) irq_word c.args.irq c.level.ensures c.put_field-c.ensures.0 (omega arith) two in
@@ -46,5 +46,5 @@ returns c =
     let a = c.args in
     let o = buffer a.into.now a.at in
     put_then o _ _ (put_then o _ _ (put_then o _ _ (put_then o _ _ c.put_field-a.ensures.0 c.put_field-b.ensures.0)
-    c.put_field-c.ensures.0) c.put_field-d.ensures.0) c.put_byte.ensures
+    c.put_field-c.ensures.0) c.put_field-d.ensures.0) c.put_one.ensures
     ∙ simp (c.level.ensures, c.level-2.ensures)

@@ -11,14 +11,14 @@ use Rattle.text.proofs.DecimalLaws.{decimal_places}
 use Rattle.lines.proofs.PrintLaws.{field_put}
 use Rattle.codec.proofs.print.put_field.Goals as goal
 
-pub put_byte-requires : goal.put_byte-requires
-put_byte-requires c = omega (arith, put_place (buffer c.args.into.now c.args.at) c.args.word.now c.put-a.ensures)
+pub put_one-requires : goal.put_one-requires
+put_one-requires c = omega (arith, put_place (buffer c.args.into.now c.args.at) c.args.word.now c.put-a.ensures)
 
 pub returns-in_default : goal.returns-in_default
 returns-in_default c =
     let a = c.args in
     field_put (buffer a.into.now a.at) a.word.now a.out None c.in_default.is (omega arith)
-    c.put-a.ensures c.put_byte.ensures
+    c.put-a.ensures c.put_one.ensures
 
 pub put_decimal-requires : goal.put_decimal-requires
 put_decimal-requires c =

@@ -1,6 +1,6 @@
--- `numbers::chip::put_number`: a byte's law holds of numbers (`append_byte`).
+-- `numbers::chip::put_number`: a byte's law holds of numbers (`append_one`).
 -- Assumes nothing.
-use Rattle.text.proofs.BufferLaws.{append_byte}
+use Rattle.text.proofs.BufferLaws.{append_one}
 use native.Mathlib.Omega.{arith}
 use Rattle.numbers.proofs.chip.put_number.Goals as goal
 
@@ -14,4 +14,4 @@ pub overflow_add-result : goal.overflow_add-result
 overflow_add-result c = omega arith
 
 pub returns : goal.returns
-returns c = append_byte _ _ _
+returns c = append_one _ _ _

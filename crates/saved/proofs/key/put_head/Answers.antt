@@ -38,8 +38,8 @@ put_index-b-requires c =
       i_bound = q;
     }
 
-pub put_byte-requires : goal.put_byte-requires
-put_byte-requires c =
+pub put_one-requires : goal.put_one-requires
+put_one-requires c =
     let a = c.args in
     let q = c.requires in
     let o = buffer a.into.now 0 in
@@ -61,5 +61,5 @@ returns c =
     let t = c.is_numbered-numbered in
     let i = pick t.result (decimal_text a.i) [] in
     put_first a.into.now _ ((k ++ i) ++ (equals ∷ [])) _ (room_equals k i a.into.now s (index_short t.result a.i q) (omega arith))
-    (put_then o (k ++ i) (equals ∷ []) (put_then o k i (c.put-a.ensures ∙ ap (append o) c.key_of-key.ensures) c.put_index-b.ensures) c.put_byte.ensures)
+    (put_then o (k ++ i) (equals ∷ []) (put_then o k i (c.put-a.ensures ∙ ap (append o) c.key_of-key.ensures) c.put_index-b.ensures) c.put_one.ensures)
     ∙ ap (λ (b : Bool). (k ++ pick b (decimal_text a.i) []) ++ (equals ∷ [])) t.ensures

@@ -36,8 +36,8 @@ put_decimal-digits-requires c =
     let b = buffer l.into l.end in
     room_before l.end d m (part_room o (run_text y) (run_text (drop l.j y)) (d ++ m) rest b l.invariant.1 n h.numbers_in_bounds)
 
-pub put_byte-end-requires : goal.put_byte-end-requires
-put_byte-end-requires c =
+pub put_one-end-requires : goal.put_one-end-requires
+put_one-end-requires c =
     let a = c.args in
     let h = c.requires in
     let o = buffer a.into.now a.at in
@@ -68,7 +68,7 @@ loop-j-preserved c =
     let b = buffer l.into l.end in
     let k = c.mark_after-mark in
     let q = k.result ∷ [] in
-    (c.put_byte-end.auto.into ∙ c.put_decimal-digits.auto.into ∙ l.invariant.0, part_more o (run_text y) (run_text (drop l.j y)) (d ++ q) rest b _ l.invariant.1 (n ∙ ap (λ (v : ℕ). (d ++ (v ∷ [])) ++ rest) (sym k.ensures)) (put_then b d q c.put_decimal-digits.ensures c.put_byte-end.ensures))
+    (c.put_one-end.auto.into ∙ c.put_decimal-digits.auto.into ∙ l.invariant.0, part_more o (run_text y) (run_text (drop l.j y)) (d ++ q) rest b _ l.invariant.1 (n ∙ ap (λ (v : ℕ). (d ++ (v ∷ [])) ++ rest) (sym k.ensures)) (put_then b d q c.put_decimal-digits.ensures c.put_one-end.ensures))
 
 pub returns : goal.returns
 returns c =

@@ -1,28 +1,7 @@
--- `text::buffer::put`: so far the bytes passed have been put.
+-- `text::buffer::put`: the elements between the place and the next are those.
 -- Assumes nothing.
-use mathlib.Core.List.{List}
-use native.Mathlib.Omega.{arith}
-use mathlib.Core.Path.{refl, ap, ◌∙◌}
-use Prim.Native.Nat.{ℕ, ◌+◌}
-use lib.ListN.{get_or, set, length-set}
-use Rattle.text.proofs.BufferLaws.{sets_more, append_all}
+use Rattle.text.proofs.BufferLaws.{put_between}
 use Rattle.text.proofs.buffer.put.Goals as goal
 
-pub loop-i-init : goal.loop-i-init
-loop-i-init c = (omega arith, refl, refl)
-
-pub loop-i-preserved : goal.loop-i-preserved
-loop-i-preserved c =
-    let l = c.loop-i in
-    let a = c.args in (
-      omega arith,
-      simp length-set l.invariant.1,
-      ap (λ (o : List ℕ). set o (a.at + l.i) (get_or a.text.now l.i 0)) l.invariant.2
-          ∙ sets_more a.into.now a.at a.text.now l.i c.loop-i-test.true,
-    )
-
 pub returns : goal.returns
-returns c =
-    let l = c.loop-i in
-    let a = c.args in
-    append_all a.into.now l.into a.at a.text.now l.i (omega arith) l.invariant.2
+returns g c = put_between c.args.at _ c.args.into.now c.args.items.now c.copy_from_slice.ensures.after c.requires

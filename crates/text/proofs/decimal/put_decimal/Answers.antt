@@ -6,10 +6,10 @@ use Rattle.text.specs.Buffer.{buffer, append}
 use Rattle.text.proofs.DecimalLaws.{decimal_small, decimal_some}
 use Rattle.text.proofs.decimal.put_decimal.Goals as goal
 
-pub put_byte-requires : goal.put_byte-requires
-put_byte-requires c = omega (arith, c.requires, decimal_some c.args.n)
+pub put_one-requires : goal.put_one-requires
+put_one-requires c = omega (arith, c.requires, decimal_some c.args.n)
 
 pub returns-then-n-lt10 : goal.returns-then-n-lt10
 returns-then-n-lt10 c =
     let a = c.args in
-    c.put_byte.ensures ∙ ap (append (buffer a.into.now a.at)) (sym (decimal_small a.n (omega arith)))
+    c.put_one.ensures ∙ ap (append (buffer a.into.now a.at)) (sym (decimal_small a.n (omega arith)))
