@@ -3,20 +3,22 @@
 -- Assumes nothing.
 use mathlib.Core.Path.{◌≡◌, refl}
 use mathlib.Core.Bool.{false}
-use Prim.Native.Nat.{ℕ, ◌+◌, ◌%◌, ◌<◌, ◌≤◌}
+use Prim.Native.Nat.{ℕ, ◌%◌, ◌<◌}
 use native.Mathlib.Omega.{arith}
 use borrow.Author.Tests.{ltb-false}
+use mathlib.Core.List.{List}
 use lib.Dec.{ltb, lit<}
+use lib.ListN.{length}
 use Rattle.record.specs.declared.Act.{Act}
 use Rattle.record.specs.declared.Act.TheVariants.{Byte, End, Cut, Set}
 use Rattle.record.specs.declared.Pin.{Pin}
 use Rattle.record.specs.declared.Device.{Device}
-use Rattle.record.specs.Address.{page_of}
 use Rattle.refusals.specs.InRange.{InRange}
 use Rattle.record.specs.Part.{size_of, id_size}
-use Rattle.record.specs.Stages.{frame_place, cycle_place, eeprom_pointer, id_pointer}
+use Rattle.record.specs.Stages.{frame_place, eeprom_pointer, id_pointer}
 use Rattle.record.proofs.PartLaws.{whole_pages, page_fits}
 use Rattle.refusals.specs.Refusal.{refusal_of}
+use Rattle.acts.specs.Page.{PageInside}
 use Rattle.refusals.proofs.RangeLaws.{in_range_lem}
 use Rattle.refusals.proofs.TableLaws.{Accepted, accepted}
 
@@ -41,21 +43,22 @@ accepted_cut part n d ee id e = byte_arg 255 n (lit< tt) (accepted part Cut n d 
 pub accepted_set : (part n : ℕ) (p : Pin) (d : Device) (ee id : ℕ) → refusal_of part (Set p) n d ee id ≡ 0 → n % 256 ≡ n
 accepted_set part n p d ee id e = byte_arg 1 n (lit< tt) (accepted part (Set p) n d ee id e).arg
 
--- a record and memories of lengths ee and id
-pub record Suits (d : Device) (ee id : ℕ) : Type 0 where
-  pub frame_eeprom : eeprom_pointer (frame_place d.frame.stage) < ee
-  pub frame_id : id_pointer (frame_place d.frame.stage) < id
-  pub page_eeprom : page_of (eeprom_pointer (cycle_place d.cycle.target)) + 8 ≤ ee
-  pub page_id : page_of (id_pointer (cycle_place d.cycle.target)) + 8 ≤ id
+-- a record and memories
+pub record Suits (d : Device) (ee id : List ℕ) : Type 0 where
+  pub frame_eeprom : eeprom_pointer (frame_place d.frame.stage) < length ee
+  pub frame_id : id_pointer (frame_place d.frame.stage) < length id
+  pub page : PageInside d.cycle.target ee id
 
-pub suits : (part : ℕ) (act : Act) (n : ℕ) (d : Device) (ee id : ℕ) → refusal_of part act n d ee id ≡ 0 → Suits d ee id
+pub suits :
+    (part : ℕ) (act : Act) (n : ℕ) (d : Device) (ee id : List ℕ) → refusal_of part act n d (length ee) (length id) ≡ 0 → Suits d ee id
 suits part act n d ee id e =
-    let a : Accepted part act n d ee id = accepted part act n d ee id e in
+    let a : Accepted part act n d (length ee) (length id) = accepted part act n d _ _ e in
     let r : InRange part d = in_range_lem part d a.setup.ranged in
-    rw (a.setup.eeprom, a.setup.ids)
-    (record {
-      frame_eeprom = r.frame.place.eeprom;
-      frame_id = r.frame.place.id;
-      page_eeprom = page_fits _ (size_of part) r.cycle.place.eeprom (whole_pages part);
-      page_id = page_fits _ id_size r.cycle.place.id refl;
-    })
+    record {
+      frame_eeprom = rw a.setup.eeprom r.frame.place.eeprom;
+      frame_id = rw a.setup.ids r.frame.place.id;
+      page = record {
+        eeprom_page = rw a.setup.eeprom (page_fits _ (size_of part) r.cycle.place.eeprom (whole_pages part));
+        id_page = rw a.setup.ids (page_fits _ id_size r.cycle.place.id refl);
+      };
+    }

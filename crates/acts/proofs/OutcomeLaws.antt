@@ -15,7 +15,10 @@ use Rattle.record.specs.declared.Device.{Device}
 use Rattle.record.specs.Part.{is_part}
 use Rattle.record.specs.Stages.{selected}
 use Rattle.refusals.specs.Range.{out_of_range}
-use Rattle.refusals.specs.Refusal.{wrong_length, wrong_arg, wrong_power, wrong_select, refusal_of}
+use Rattle.refusals.specs.declared.Refusal.{Refusal}
+use Rattle.refusals.specs.Refusal.{refusal_number, wrong_length, wrong_arg, wrong_power, wrong_select, refusal_of, setup_refusal, act_refusal}
+use Rattle.refusals.proofs.NumberLaws.{refusal_not_zero}
+use Rattle.refusals.proofs.TableLaws.{by_setup, by_act}
 use Rattle.record.specs.World.{World}
 use Rattle.acts.specs.Act.{Outcome, accepted, refused, refusal_in, performed}
 
@@ -46,6 +49,24 @@ pub refused_by_lem :
     (part : ℕ) (act : Act) (arg : ℕ) (w : World) (k : ℕ) → k ≡ refusal_in part act arg w → (k ≡ 0 → ⊥) → refused k w ≡ performed part act arg w
 refused_by_lem part act arg w k e h =
     ap (λ (n : ℕ). refused n w) e ∙ sym (by_refusal part act arg w (ne_eqb _ 0 (λ z. h (e ∙ z))))
+
+-- so does a refusal of the setup, and one of the act where the setup has none
+pub refused_by_setup :
+    (part : ℕ) (act : Act) (arg : ℕ) (w : World) (r : Refusal) → refusal_number r ≡ setup_refusal part w.device (length w.eeprom) (length w.id)
+    → refused (refusal_number r) w ≡ performed part act arg w
+refused_by_setup part act arg w r e =
+    refused_by_lem part act arg w _ (e ∙ by_setup _ _ _ _ _ _ (λ z. refusal_not_zero r (e ∙ z))) (refusal_not_zero r)
+
+pub refused_by_act :
+    (part : ℕ) (act : Act) (arg : ℕ) (w : World) (r : Refusal) → setup_refusal part w.device (length w.eeprom) (length w.id) ≡ 0
+    → refusal_number r ≡ act_refusal act arg w.device → refused (refusal_number r) w ≡ performed part act arg w
+refused_by_act part act arg w r s e = refused_by_lem part act arg w _ (e ∙ sym (by_act _ _ _ _ _ _ s)) (refusal_not_zero r)
+
+-- and an act that neither refuses is accepted
+pub accepted_by_both :
+    (part : ℕ) (act : Act) (arg : ℕ) (w : World) → setup_refusal part w.device (length w.eeprom) (length w.id) ≡ 0
+    → 0 ≡ act_refusal act arg w.device → refusal_in part act arg w ≡ 0
+accepted_by_both part act arg w s e = by_act _ _ _ _ _ _ s ∙ sym e
 
 -- every act is answered with the table's number, refused or not
 pub answered_by_table : (part : ℕ) (act : Act) (arg : ℕ) (w : World) → (performed part act arg w).number ≡ refusal_in part act arg w

@@ -1,7 +1,7 @@
 -- The acts (01's term) on a chip and its two memories: for every part, act and argument one answer, one record after it and one
 -- content of each memory, refused or not.
 -- Assumes nothing.
-use Rattle.std.specs.Prelude.{ℕ, List, eqb, length, Option, None}
+use Rattle.std.specs.Prelude.{ℕ, List, eqb, length, Option, None, Result, Ok, Err}
 use Rattle.base.specs.Wait.{Waited}
 use Rattle.base.specs.Words.{pick}
 use Rattle.record.specs.declared.Act.{Act}
@@ -9,7 +9,8 @@ use Rattle.record.specs.declared.Act.TheVariants.{Select, Byte, End, Wait, Cut, 
 use Rattle.record.specs.declared.Device.{Device}
 use Rattle.record.specs.Part.{top_of, boots_of}
 use Rattle.record.specs.World.{World, world, moved}
-use Rattle.refusals.specs.Refusal.{refusal_of}
+use Rattle.refusals.specs.declared.Refusal.{Refusal}
+use Rattle.refusals.specs.Refusal.{refusal_number, refusal_of}
 use Rattle.ticks.specs.Tick.{waited}
 use Rattle.replies.specs.Reply.{next_reply, leftover_reply}
 use Rattle.frames.specs.Frame.{after_byte, after_select}
@@ -57,14 +58,15 @@ refusal_in part act arg w = refusal_of part act arg w.device (length w.eeprom) (
 unfoldable pub performed : ℕ → Act → ℕ → World → Outcome
 performed part act arg w = pick (eqb (refusal_in part act arg w) 0) (accepted part arg w act) (refused (refusal_in part act arg w) w)
 
--- the code's answer and the memories at its return, as one outcome
-abbrev pub outcome_of : Answer → List ℕ → List ℕ → Outcome
-outcome_of r ee id = outcome r.number r.reply r.count (world r.device ee id)
+-- what the code answers of an act that is done, and the memories at its return, as one outcome
+abbrev pub outcome_done : Answer → List ℕ → List ℕ → Outcome
+outcome_done a ee id = outcome 0 a.reply a.count (world a.device ee id)
+
+-- what the code answers of any act on the record d, and the memories at its return, as one outcome: a refusal has no record of its own, and leaves d
+abbrev pub outcome_of : Device → Result Answer Refusal → List ℕ → List ℕ → Outcome
+outcome_of d (Ok a) ee id = outcome_done a ee id
+outcome_of d (Err r) ee id = refused (refusal_number r) (world d ee id)
 
 -- an answer with no reply
-abbrev pub silent_answer : ℕ → ℕ → Device → Answer
-silent_answer number count d = record { number = number; reply = None; count = count; device = d }
-
--- an answer with a reply and no count
-abbrev pub replied_answer : Option ℕ → Device → Answer
-replied_answer reply d = record { number = 0; reply = reply; count = 0; device = d }
+abbrev pub silent_answer : ℕ → Device → Answer
+silent_answer count d = record { reply = None; count = count; device = d }

@@ -1,87 +1,62 @@
 #![tactic(auto)]
 
 // The acts on a chip's record and the two memories that are lent to each act.
-ghost use Rattle.std.specs.Prelude.{◌≡◌, ◌+◌, ◌≤◌, length, None};
-ghost use Rattle.record.specs.Address.{page_of};
-ghost use Rattle.record.specs.Stages.{cycle_place, eeprom_pointer, id_pointer};
+ghost use Rattle.std.specs.Prelude.{◌≡◌, length, None};
 ghost use Rattle.refusals.specs.Refusal.{refusal_of, setup_refusal};
 ghost use Rattle.record.specs.World.{world};
 ghost use Rattle.ticks.specs.Tick.{waited};
 ghost use Rattle.power.specs.Power.{cut_count, cut_world};
-ghost use Rattle.acts.specs.Act.{silent_answer, replied_answer, outcome_of, outcome, waited_outcome, accepted, performed};
+ghost use Rattle.acts.specs.Page.{PageInside};
+ghost use Rattle.acts.specs.Act.{silent_answer, outcome_done, outcome_of, outcome, waited_outcome, accepted, performed};
 
 use record::{Act, Device};
+use refusals::Refusal;
 
 pub mod page; // page.rt: a page stored under a mask, a memory erased
 
-// The answer of an act: its number in the refusal table, 0 for done; the reply on SO; a wait's ticks used or a cut's count; the record.
+// What an act that is done answers: the reply on SO; a wait's ticks used or a cut's count; the record after it.
 #[derive(Clone, Copy)]
 pub struct Answer {
-    pub number: u8,
     pub reply: Option<u8>,
     pub count: u64,
     pub device: Device,
 }
 
 // An answer with no reply.
-fn silent(number: u8, count: u64, device: Device) -> Answer
-    ensures { result ≡ silent_answer number count device }
+fn silent(count: u64, device: Device) -> Answer
+    ensures { result ≡ silent_answer count device }
 {
     Answer {
-        number,
         reply: None,
         count,
         device,
     }
 }
 
-// An answer of an act that is done, with its reply and no count.
-fn replied(reply: Option<u8>, device: Device) -> Answer
-    ensures { result ≡ replied_answer reply device }
-{
-    Answer {
-        number: 0,
-        reply,
-        count: 0,
-        device,
-    }
-}
-
 // A wait: the record's ticks, and at most one page stored after them.
 fn wait_act(boots: bool, n: u64, d: Device, eeprom: &mut [u8], id: &mut [u8]) -> Answer
-    requires { (page_of (eeprom_pointer (cycle_place d.cycle.target)) + 8 ≤ length eeprom.old) × (page_of (id_pointer (cycle_place d.cycle.target)) + 8 ≤ length id.old) }
-    ensures { outcome_of result eeprom.new id.new ≡ waited_outcome (waited boots n (world d eeprom.old id.old)) }
+    requires { PageInside d.cycle.target eeprom.old id.old }
+    ensures { outcome_done result eeprom.new id.new ≡ waited_outcome (waited boots n (world d eeprom.old id.old)) }
 {
-    let y = d.cycle;
-    let target = y.target;
-    let load = d.load;
     let w = waits::wait::wait_device(boots, n, d);
-    let after = w.device;
-    let z = after.cycle;
-    let was = 0 < y.left;
-    let runs = 0 < z.left;
+    let was = 0 < d.cycle.left;
+    let runs = 0 < w.device.cycle.left;
     if was & !runs {
-        page::store_target(target, load, ticks::tick::WHOLE, eeprom, id);
-        return silent(0, w.used, after);
+        page::store_target(d.cycle.target, d.load, ticks::tick::WHOLE, eeprom, id);
     }
-    silent(0, w.used, after)
+    silent(w.used, w.device)
 }
 
 // A cut: what the mask lets through is stored, the rest is gone.
 fn cut_act(mask: u8, d: Device, eeprom: &mut [u8], id: &mut [u8]) -> Answer
-    requires { (page_of (eeprom_pointer (cycle_place d.cycle.target)) + 8 ≤ length eeprom.old) × (page_of (id_pointer (cycle_place d.cycle.target)) + 8 ≤ length id.old) }
-    ensures { outcome_of result eeprom.new id.new ≡ outcome 0 None (cut_count mask d) (cut_world mask (world d eeprom.old id.old)) }
+    requires { PageInside d.cycle.target eeprom.old id.old }
+    ensures { outcome_done result eeprom.new id.new ≡ outcome 0 None (cut_count mask d) (cut_world mask (world d eeprom.old id.old)) }
 {
-    let y = d.cycle;
-    let target = y.target;
-    let load = d.load;
-    let count = power::cut::cut_count(mask, d) as u64;
-    let after = power::cut::after_cut(mask, d);
-    if y.left == 0 {
-        return silent(0, count, after);
+    if d.cycle.left != 0 {
+        page::store_target(d.cycle.target, d.load, mask, eeprom, id);
     }
-    page::store_target(target, load, mask, eeprom, id);
-    silent(0, count, after)
+    let count = power::cut::cut_count(mask, d) as u64;
+    silent(count, power::cut::after_cut(mask, d))
 }
 
 // An act that the table does not refuse.
@@ -94,27 +69,35 @@ fn accepted_act(
     id: &mut [u8],
 ) -> Answer
     requires { refusal_of part act arg d (length eeprom.old) (length id.old) ≡ 0 }
-    ensures { outcome_of result eeprom.new id.new ≡ accepted part arg (world d eeprom.old id.old) act }
+    ensures { outcome_done result eeprom.new id.new ≡ accepted part arg (world d eeprom.old id.old) act }
 {
     let top = record::part::top(part);
     let boots = record::part::boots(part);
     let v = (arg % 256) as u8;
     match act {
-        Act::Select => silent(0, 0, frames::byte::after_select(d)),
+        Act::Select => silent(0, frames::byte::after_select(d)),
         Act::Byte => {
             let reply = replies::next_reply(eeprom, id, d);
             let device = frames::byte::after_byte(boots, top, v, d);
-            replied(reply, device)
+            Answer {
+                reply,
+                count: 0,
+                device,
+            }
         }
         Act::End => {
             let reply = replies::leftover_reply(v, eeprom, id, d);
             let device = ends::end::after_end(top, v, d);
-            replied(reply, device)
+            Answer {
+                reply,
+                count: 0,
+                device,
+            }
         }
         Act::Wait => wait_act(boots, arg, d, eeprom, id),
         Act::Cut => cut_act(v, d, eeprom, id),
-        Act::Up => silent(0, 0, power::cut::after_up(d)),
-        Act::Set(pin) => silent(0, 0, pins::after_set(pin, v, d)),
+        Act::Up => silent(0, power::cut::after_up(d)),
+        Act::Set(pin) => silent(0, pins::after_set(pin, v, d)),
     }
 }
 
@@ -126,24 +109,25 @@ pub fn perform_in_range(
     d: Device,
     eeprom: &mut [u8],
     id: &mut [u8],
-) -> Answer
+) -> Result<Answer, Refusal>
     requires { setup_refusal part d (length eeprom.old) (length id.old) ≡ 0 }
-    ensures { outcome_of result eeprom.new id.new ≡ performed part act arg (world d eeprom.old id.old) }
+    ensures { outcome_of d result eeprom.new id.new ≡ performed part act arg (world d eeprom.old id.old) }
 {
-    let refusal = refusals::act_refusal(act, arg, d);
-    if refusal != 0 {
-        return silent(refusal, 0, d);
-    }
-    accepted_act(part, act, arg, d, eeprom, id)
+    refusals::act_refusal(act, arg, d)?;
+    Ok(accepted_act(part, act, arg, d, eeprom, id))
 }
 
 // One act. Part and argument are any numbers; a refused act changes nothing.
-pub fn perform(part: u64, act: Act, arg: u64, d: Device, eeprom: &mut [u8], id: &mut [u8]) -> Answer
-    ensures { outcome_of result eeprom.new id.new ≡ performed part act arg (world d eeprom.old id.old) }
+pub fn perform(
+    part: u64,
+    act: Act,
+    arg: u64,
+    d: Device,
+    eeprom: &mut [u8],
+    id: &mut [u8],
+) -> Result<Answer, Refusal>
+    ensures { outcome_of d result eeprom.new id.new ≡ performed part act arg (world d eeprom.old id.old) }
 {
-    let refusal = refusals::setup_refusal(part, d, eeprom.len(), id.len());
-    if refusal != 0 {
-        return silent(refusal, 0, d);
-    }
+    refusals::setup_refusal(part, d, eeprom.len(), id.len())?;
     perform_in_range(part, act, arg, d, eeprom, id)
 }

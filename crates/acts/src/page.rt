@@ -1,8 +1,7 @@
 // A lent memory: a page stored into it, and all of it erased.
 ghost use Rattle.std.specs.Prelude.{◌≡◌, ◌+◌, ◌≤◌, length, replicate};
 ghost use Rattle.base.specs.Words.{store_under};
-ghost use Rattle.record.specs.Address.{page_of};
-ghost use Rattle.record.specs.Stages.{cycle_place, eeprom_pointer, id_pointer};
+ghost use Rattle.acts.specs.Page.{PageInside};
 ghost use Rattle.record.specs.Stored.{eeprom_after, id_after};
 
 use record::{Load, Target};
@@ -12,30 +11,28 @@ fn store(page: &mut [u8], set: u8, bytes: [u8; 8])
     requires { 8 ≤ length page.old }
     ensures { page.new ≡ store_under page.old 0 set bytes 8 }
 {
-    let mut k: usize = 0;
-    while k < 8 {
+    for (k, b) in bytes.iter().enumerate() {
         if (set >> k) % 2 == 1 {
-            page[k] = bytes[k];
+            page[k] = *b;
         }
-        k += 1;
     }
 }
 
 // What a write cycle's page changes under a mask, in the memory that it is for.
 pub fn store_target(target: Target, load: Load, mask: u8, eeprom: &mut [u8], id: &mut [u8])
-    requires { (page_of (eeprom_pointer (cycle_place target)) + 8 ≤ length eeprom.old) × (page_of (id_pointer (cycle_place target)) + 8 ≤ length id.old) }
-    ensures { (eeprom.new ≡ eeprom_after load mask eeprom.old target) × (id.new ≡ id_after load mask id.old target) }
+    requires { PageInside target eeprom.old id.old }
+    ensures eeprom_after { eeprom.new ≡ eeprom_after load mask eeprom.old target }
+    ensures id_after { id.new ≡ id_after load mask id.old target }
 {
     let set = load.offsets & mask;
-    let bytes = load.bytes;
     match target {
         Target::Eeprom(a) => {
             let base = a.page();
-            store(&mut eeprom[base..base + 8], set, bytes);
+            store(&mut eeprom[base..base + 8], set, load.bytes);
         }
         Target::Id(a) => {
             let base = a.page();
-            store(&mut id[base..base + 8], set, bytes);
+            store(&mut id[base..base + 8], set, load.bytes);
         }
         Target::Status(_) => {}
     }
@@ -45,9 +42,5 @@ pub fn store_target(target: Target, load: Load, mask: u8, eeprom: &mut [u8], id:
 pub fn erase(m: &mut [u8])
     ensures { m.new ≡ replicate (length m.old) 255 }
 {
-    let mut i: usize = 0;
-    while i < m.len() {
-        m[i] = 0xff;
-        i += 1;
-    }
+    m.fill(0xff);
 }

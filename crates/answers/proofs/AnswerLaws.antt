@@ -26,8 +26,7 @@ use Rattle.refusals.specs.InRange.{InRange}
 use Rattle.refusals.specs.Refusal.{setup_refusal}
 use Rattle.refusals.proofs.RangeLaws.{in_range_lem, out_of_range_lem, fresh_facts}
 use Rattle.refusals.proofs.TableLaws.{setup_passed, setup_passes}
-use Rattle.acts.specs.declared.Answer.{Answer}
-use Rattle.acts.specs.Act.{Outcome, refusal_in, performed, outcome_of}
+use Rattle.acts.specs.Act.{Outcome, refusal_in, performed}
 use Rattle.acts.proofs.OutcomeLaws.{done_zero, refused_same}
 use Rattle.acts.proofs.SuitedLaws.{performed_follows}
 use Rattle.lines.specs.declared.Fault.{Fault}
@@ -147,13 +146,15 @@ fresh_shown h o part d x ee id l f e m k =
 
 -- the code's outcome of an act on the part's own bytes
 pub outcome_shown :
-    (h : Held) (o : Buffer) (act : Act) (arg : ℕ) (a : Answer) (x id : List ℕ) (out : Option ℕ) → eqb h.part 0 ≡ false → length h.id ≡ id_size
-    → length x ≡ size_of h.part → length id ≡ length h.id → out ≡ out_of a.number act a.reply a.count
-    → outcome_of a x id ≡ performed h.part act arg (world h.device (take (size_of h.part) h.eeprom) h.id)
-    → line_in (record { part = h.part; device = a.device; eeprom = x ++ drop (size_of h.part) h.eeprom; id = id }) o a.number out
+    (h : Held) (o : Buffer) (act : Act) (arg : ℕ) (a : Outcome) (out : Option ℕ) → eqb h.part 0 ≡ false → length h.id ≡ id_size
+    → length a.after.eeprom ≡ size_of h.part → length a.after.id ≡ length h.id → out ≡ out_of a.number act a.reply a.count
+    → a ≡ performed h.part act arg (world h.device (take (size_of h.part) h.eeprom) h.id)
+    → line_in (record { part = h.part; device = a.after.device; eeprom = a.after.eeprom ++ drop (size_of h.part) h.eeprom; id = a.after.id }) o a.number out
     ≡ shown_in h o (act_answer act arg (setup_in h))
 unfolding shown_in answer_text
-outcome_shown h o act arg a x id out some l m n e f =
+outcome_shown h o act arg a out some l m n e f =
+    let x = a.after.eeprom in
+    let id = a.after.id in
     let part = h.part in
     let w = world h.device (take (size_of part) h.eeprom) h.id in
     let chip : w ≡ (setup_in h).chip =
@@ -161,9 +162,9 @@ outcome_shown h o act arg a x id out some l m n e f =
     ((sym (take_all id_size h.id (omega arith)) ∙ ap (λ (k : ℕ). take k h.id) (sym (held_id part some))) i) in
     let p : x ++ drop (size_of part) h.eeprom ≡ over x h.eeprom = ap (λ (k : ℕ). x ++ drop k h.eeprom) (sym m) in
     let q : id ≡ over id h.id = sym (over_whole id h.id n) in
-    let made : LineAnswer = outcome_answer part act (outcome_of a x id) in
-    let laid : line_in (record { part = part; device = a.device; eeprom = x ++ drop (size_of part) h.eeprom; id = id }) o a.number out ≡ shown_in h o made =
-    λ i. line_in (record { part = part; device = a.device; eeprom = p i; id = q i }) o a.number (e i) in
+    let made : LineAnswer = outcome_answer part act a in
+    let laid : line_in (record { part = part; device = a.after.device; eeprom = x ++ drop (size_of part) h.eeprom; id = id }) o a.number out ≡ shown_in h o made =
+    λ i. line_in (record { part = part; device = a.after.device; eeprom = p i; id = q i }) o a.number (e i) in
     laid
     ∙ ap (λ (y : Outcome). shown_in h o (outcome_answer part act y)) (f ∙ ap (performed part act arg) chip)
     ∙ ap (shown_in h o) (no (misplaced (setup_in h)) (outcome_answer part act (performed part act arg (setup_in h).chip)) some)

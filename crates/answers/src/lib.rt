@@ -19,12 +19,12 @@ pub const EEPROM_ROOM: usize = 256;
 pub const ID_SIZE: usize = record::part::ID_SIZE as usize;
 
 // A tape may go on with this part and record: there is no part, or one of the four with a record in range.
+#[tactic(auto, unfolding(crate::specs::Ready::ready))]
 pub fn is_ready(part: u64, d: Device) -> bool
     ensures { result ≡ ready part d }
 {
     let size = record::part::size(part) as usize;
-    let number = refusals::setup_refusal(part, d, size, ID_SIZE);
-    (part == 0) | (number == 0)
+    (part == 0) | refusals::setup_refusal(part, d, size, ID_SIZE).is_ok()
 }
 
 // T6, T7. A line `op=part`: the first of a part that there is makes a fresh chip.
@@ -75,14 +75,18 @@ fn act_line(
         return p.told(74, Some(0), into);
     }
     let size = record::part::size(p.part) as usize;
-    let a = acts::perform_in_range(p.part, act, arg, p.device, &mut eeprom[..size], id);
-    let out = codec::print::out_of(a.number, act, a.reply, a.count);
-    let next = Progress {
-        part: p.part,
-        device: a.device,
-        at: p.at,
-    };
-    next.told(a.number, out, into)
+    match acts::perform_in_range(p.part, act, arg, p.device, &mut eeprom[..size], id) {
+        Ok(a) => {
+            let out = codec::print::out_of(0, act, a.reply, a.count);
+            let next = Progress {
+                part: p.part,
+                device: a.device,
+                at: p.at,
+            };
+            next.told(0, out, into)
+        }
+        Err(refusal) => p.told(u8::from(refusal), None, into),
+    }
 }
 
 // A line's answer.

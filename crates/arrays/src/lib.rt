@@ -15,6 +15,7 @@ use numbers::table;
 use record::numbered::Numbered;
 use record::registers::POWER_DOWN;
 use record::{Counters, Cycle, Device, Frame, Guard, Load, Lock, Stage, Target, part, registers};
+use refusals::Refusal;
 use text::buffer;
 
 // Bytes of a state array, numbers of an answer.
@@ -362,9 +363,10 @@ pub fn put_state(part: u8, d: Device, into: &mut [u8])
 pub fn refusal(part: u64, eeprom: usize, id: usize, there: bool) -> u8
     ensures { result ≡ arrays_refusal part eeprom id there }
 {
-    let known = part::is_part(part);
-    let misfit = refusals::wrong_length(part, eeprom, id);
-    refusals::first_refusal(!known, misfit, !there, false, false, 0)
+    match refusals::memory_refusal(part, eeprom, id) {
+        Err(refusal) => u8::from(refusal),
+        Ok(()) => if there { 0 } else { u8::from(Refusal::Range) },
+    }
 }
 
 // The same of the arrays of a caller.

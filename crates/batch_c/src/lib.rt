@@ -2,8 +2,7 @@
 
 // `batch` for a caller in another language, to whom each slice is a pointer and a length.
 ghost use Rattle.std.specs.Prelude.{◌≡◌};
-ghost use Rattle.run.specs.declared.Ran.{Ran};
-ghost use Rattle.run.specs.Run.{Run};
+ghost use Rattle.run.specs.Run.{Answered, Run};
 
 // How many acts were performed.
 #[unsafe(no_mangle)]
@@ -16,7 +15,7 @@ pub extern "C" fn tekuravy_run(
     eeprom: &mut [u8],
     id: &mut [u8],
 ) -> u64
-    ensures { (s : Ran) × (Run part codes.now args.now answers.old answers.new used.old used.new eeprom.old eeprom.new id.old id.new s) × (result ≡ s.count) }
+    ensures { (s : Answered) × (Run part codes.now args.now answers.old answers.new used.old used.new eeprom.old eeprom.new id.old id.new s) × (result ≡ s.count) }
 {
     batch::tekuravy_run(part, codes, args, answers, used, eeprom, id)
 }

@@ -30,10 +30,16 @@ pub fn mcp795_act(
         return 3;
     }
     let code = record::number::act_of(act as u8);
-    let a = acts::perform_in_range(part as u64, code, number, device, eeprom, id);
-    let after = a.device;
-    let reply = a.reply;
-    arrays::put_state(part, after, state);
-    arrays::put_answer(a.number, reply, a.count, after, answer);
-    a.number as u64
+    match acts::perform_in_range(part as u64, code, number, device, eeprom, id) {
+        Ok(a) => {
+            arrays::put_state(part, a.device, state);
+            arrays::put_answer(0, a.reply, a.count, a.device, answer);
+            0
+        }
+        Err(refusal) => {
+            let refused = u8::from(refusal);
+            arrays::put_answer(refused, None, 0, device, answer);
+            refused as u64
+        }
+    }
 }

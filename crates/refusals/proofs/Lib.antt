@@ -1,3 +1,4 @@
+pub mod NumberLaws
 pub mod RangeLaws
 pub mod TableLaws
 pub mod KeepLaws

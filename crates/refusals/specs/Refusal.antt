@@ -1,7 +1,7 @@
 -- A33. The refusal table as the chain that decides: 3 for the part, 4, 6, 3 for the argument, 5, then 1 or 2. The numbers of a bad line are the tape's and come before.
 -- The rows in words of their own, apart from this chain, stand in Rows.
 -- Assumes nothing.
-use Rattle.std.specs.Prelude.{ℕ, Bool, false, not, ◌||◌, ltb, eqb}
+use Rattle.std.specs.Prelude.{ℕ, Bool, false, not, ◌||◌, ltb, eqb, Result, Ok, Err}
 use Rattle.base.specs.Words.{pick}
 use Rattle.record.specs.declared.Device.{Device}
 use Rattle.record.specs.declared.Act.{Act}
@@ -9,7 +9,23 @@ use Rattle.record.specs.declared.Act.TheVariants.{Select, Byte, End, Wait, Cut, 
 use Rattle.record.specs.Part.{is_part, size_of, id_size}
 use Rattle.record.specs.Registers.{wait_limit}
 use Rattle.record.specs.Stages.{selected}
+use Rattle.refusals.specs.declared.Refusal.{Refusal}
+use Rattle.refusals.specs.declared.Refusal.TheVariants.{Selected, NotSelected, Argument, Length, Power, Range}
 use Rattle.refusals.specs.Range.{out_of_range}
+
+-- the numbers of the code's refusals
+abbrev pub refusal_number : Refusal → ℕ
+refusal_number Selected = 1
+refusal_number NotSelected = 2
+refusal_number Argument = 3
+refusal_number Length = 4
+refusal_number Power = 5
+refusal_number Range = 6
+
+-- the number of what the code answers: 0 where it is no refusal
+abbrev pub number_of : {A : Type 0} → Result A Refusal → ℕ
+number_of (Ok a) = 0
+number_of (Err r) = refusal_number r
 
 -- 4, A15. a memory has not the part's length
 abbrev pub wrong_length : ℕ → ℕ → ℕ → Bool
@@ -55,6 +71,10 @@ unfoldable pub refusal_of : ℕ → Act → ℕ → Device → ℕ → ℕ → �
 refusal_of part act arg d ee id =
     first_refusal (not (is_part part)) (wrong_length part ee id) (out_of_range part d) (wrong_arg act arg) (wrong_power act d.power)
     (wrong_select act (selected d.frame.stage))
+
+-- the rows that are judged before any record is seen: 3 for the part, 4; 0 where none of them holds
+abbrev pub memory_refusal : ℕ → ℕ → ℕ → ℕ
+memory_refusal part ee id = first_refusal (not (is_part part)) (wrong_length part ee id) false false false 0
 
 -- the rows that are judged whatever the act is: 3 for the part, 4, 6; 0 where none of them holds
 unfoldable pub setup_refusal : ℕ → Device → ℕ → ℕ → ℕ

@@ -1,9 +1,9 @@
 #![tactic(auto)]
 
-// The refusal table: the number that answers an act, or 0, in two steps: what is wrong with part, memories and record, and what is wrong with the
-// act. It performs nothing.
+// The refusal table: what an act is refused by, in two steps: what is wrong with part, memories and record, and what is wrong with the act. It
+// performs nothing.
 ghost use Rattle.std.specs.Prelude.{◌≡◌};
-ghost use Rattle.refusals.specs.Refusal.{wrong_length, wrong_arg, wrong_power, wrong_select, first_refusal, setup_refusal, act_refusal};
+ghost use Rattle.refusals.specs.Refusal.{number_of, refusal_number, wrong_length, wrong_arg, wrong_power, wrong_select, memory_refusal, setup_refusal, act_refusal};
 
 use record::registers::WAIT_LIMIT;
 use record::{Act, Device, part, stages};
@@ -11,6 +11,31 @@ use record::{Act, Device, part, stages};
 pub mod range; // range.rt: number 6
 
 const ID_LENGTH: usize = part::ID_SIZE as usize;
+
+// Why an act is refused, with the table's number.
+#[derive(Clone, Copy, Debug, PartialEq, Eq)]
+pub enum Refusal {
+    // a select, and the chip is selected
+    Selected = 1,
+    // a byte or an end, and it is not
+    NotSelected = 2,
+    // the part, or the act's argument
+    Argument = 3,
+    // a memory's length
+    Length = 4,
+    // the act does not go with the power
+    Power = 5,
+    // the record is out of range
+    Range = 6,
+}
+
+impl From<Refusal> for u8 {
+    ghost from_gives = { λ r n. n ≡ refusal_number r };
+
+    fn from(refusal: Refusal) -> u8 {
+        refusal as u8
+    }
+}
 
 // A memory's length is not the part's.
 pub fn wrong_length(part: u64, eeprom: usize, id: usize) -> bool
@@ -24,12 +49,10 @@ fn wrong_arg(act: Act, arg: u64) -> bool
     ensures { result ≡ wrong_arg act arg }
 {
     match act {
-        Act::Select => arg != 0,
-        Act::Byte => 255 < arg,
+        Act::Select | Act::Up => arg != 0,
+        Act::Byte | Act::Cut => 255 < arg,
         Act::End => 7 < arg,
         Act::Wait => WAIT_LIMIT < arg,
-        Act::Cut => 255 < arg,
-        Act::Up => arg != 0,
         Act::Set(_) => 1 < arg,
     }
 }
@@ -38,71 +61,57 @@ fn wrong_power(act: Act, power: bool) -> bool
     ensures { result ≡ wrong_power act power }
 {
     match act {
-        Act::Select => !power,
-        Act::Byte => !power,
-        Act::End => !power,
-        Act::Wait => false,
-        Act::Cut => !power,
+        Act::Select | Act::Byte | Act::End | Act::Cut => !power,
         Act::Up => power,
-        Act::Set(_) => false,
+        Act::Wait | Act::Set(_) => false,
     }
 }
 
-fn wrong_select(act: Act, selected: bool) -> u8
-    ensures { result ≡ wrong_select act selected }
+fn wrong_select(act: Act, selected: bool) -> Result<(), Refusal>
+    ensures { number_of result ≡ wrong_select act selected }
 {
     match act {
-        Act::Select => { if selected { 1 } else { 0 } }
-        Act::Byte => { if selected { 0 } else { 2 } }
-        Act::End => { if selected { 0 } else { 2 } }
-        Act::Wait => 0,
-        Act::Cut => 0,
-        Act::Up => 0,
-        Act::Set(_) => 0,
+        Act::Select if selected => Err(Refusal::Selected),
+        Act::Byte | Act::End if !selected => Err(Refusal::NotSelected),
+        _ => Ok(()),
     }
 }
 
-// The order of the table: the first test that holds gives its number, else the last.
-pub fn first_refusal(part: bool, length: bool, range: bool, arg: bool, power: bool, last: u8) -> u8
-    ensures { result ≡ first_refusal part length range arg power last }
+// What is wrong with the part and the memories' lengths, before any record is seen.
+pub fn memory_refusal(part: u64, eeprom: usize, id: usize) -> Result<(), Refusal>
+    ensures { number_of result ≡ memory_refusal part eeprom id }
 {
-    if part {
-        return 3;
+    if !part::is_part(part) {
+        return Err(Refusal::Argument);
     }
-    if length {
-        return 4;
+    if wrong_length(part, eeprom, id) {
+        return Err(Refusal::Length);
     }
-    if range {
-        return 6;
-    }
-    if arg {
-        return 3;
-    }
-    if power {
-        return 5;
-    }
-    last
+    Ok(())
 }
 
-// What is wrong whatever the act is: 3 for the part, 4 for a memory's length, 6 for the record, else 0.
-pub fn setup_refusal(part: u64, d: Device, eeprom: usize, id: usize) -> u8
-    ensures { result ≡ setup_refusal part d eeprom id }
+// What is wrong whatever the act is: the part, a memory's length or the record.
+#[tactic(auto, unfolding(crate::specs::Refusal::setup_refusal))]
+pub fn setup_refusal(part: u64, d: Device, eeprom: usize, id: usize) -> Result<(), Refusal>
+    ensures { number_of result ≡ setup_refusal part d eeprom id }
 {
-    let known = part::is_part(part);
-    let misfit = wrong_length(part, eeprom, id);
-    let ranged = range::out_of_range(part, d);
-    first_refusal(!known, misfit, ranged, false, false, 0)
+    memory_refusal(part, eeprom, id)?;
+    if range::out_of_range(part, d) {
+        return Err(Refusal::Range);
+    }
+    Ok(())
 }
 
-// What is wrong with an act and its argument: 3, 5, 1 or 2, else 0.
-pub fn act_refusal(act: Act, arg: u64, d: Device) -> u8
-    ensures { result ≡ act_refusal act arg d }
+// What is wrong with an act and its argument.
+#[tactic(auto, unfolding(crate::specs::Refusal::act_refusal))]
+pub fn act_refusal(act: Act, arg: u64, d: Device) -> Result<(), Refusal>
+    ensures { number_of result ≡ act_refusal act arg d }
 {
-    let wrong = wrong_arg(act, arg);
-    let unpowered = wrong_power(act, d.power);
-    let frame = d.frame;
-    let stage = frame.stage;
-    let open = stages::is_selected(stage);
-    let last = wrong_select(act, open);
-    first_refusal(false, false, false, wrong, unpowered, last)
+    if wrong_arg(act, arg) {
+        return Err(Refusal::Argument);
+    }
+    if wrong_power(act, d.power) {
+        return Err(Refusal::Power);
+    }
+    wrong_select(act, stages::is_selected(d.frame.stage))
 }

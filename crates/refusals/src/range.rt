@@ -12,18 +12,17 @@ use record::{ClockAddress, Counters, Cycle, Device, Load, Stage, part, registers
 fn bit_outside(regs: [u8; 32]) -> bool
     ensures { result ≡ bit_outside regs }
 {
-    let mut i: usize = 0;
-    while i < 32 {
+    for (i, r) in regs.iter().enumerate() {
         let kept = registers::kept_bits(ClockAddress(i as u8));
-        if (regs[i] & kept) != regs[i] {
+        if (*r & kept) != *r {
             return true;
         }
-        i += 1;
     }
     false
 }
 
 // Registers and counts.
+#[tactic(auto, unfolding(crate::specs::Range::clock_out))]
 fn clock_out(boots: bool, regs: [u8; 32], c: Counters) -> bool
     ensures { result ≡ clock_out boots regs c }
 {
@@ -40,6 +39,7 @@ fn clock_out(boots: bool, regs: [u8; 32], c: Counters) -> bool
 }
 
 // The frame and its page load.
+#[tactic(auto, unfolding(crate::specs::Range::frame_out))]
 fn frame_out(size: u16, stage: Stage, load: Load) -> bool
     ensures { result ≡ frame_out size stage load }
 {
@@ -50,17 +50,18 @@ fn frame_out(size: u16, stage: Stage, load: Load) -> bool
 }
 
 // The write cycle.
+#[tactic(auto, unfolding(crate::specs::Range::cycle_out))]
 fn cycle_out(size: u16, cycle: Cycle) -> bool
     ensures { result ≡ cycle_out size cycle }
 {
-    let target = cycle.target;
-    let place = stages::cycle_place(target);
+    let place = stages::cycle_place(cycle.target);
     let id = stages::id_pointer(place);
     let eeprom = stages::eeprom_pointer(place) as u16;
     (CYCLE_TICKS < cycle.left) | (ID_LAST < id) | (size <= eeprom)
 }
 
 // What power, mark, frame and cycle say together.
+#[tactic(auto, unfolding(crate::specs::Range::power_out))]
 fn power_out(power: bool, mark: bool, stage: Stage, cycle: Cycle) -> bool
     ensures { result ≡ power_out power mark stage cycle }
 {
@@ -71,21 +72,15 @@ fn power_out(power: bool, mark: bool, stage: Stage, cycle: Cycle) -> bool
 }
 
 // Number 6.
+#[tactic(auto, unfolding(crate::specs::Range::out_of_range))]
 pub fn out_of_range(part: u64, d: Device) -> bool
     ensures { result ≡ out_of_range part d }
 {
     let size = part::size(part);
-    let boots = part::boots(part);
-    let regs = d.regs;
-    let counters = d.counters;
-    let frame = d.frame;
-    let stage = frame.stage;
-    let load = d.load;
-    let cycle = d.cycle;
-    let events = d.events;
-    clock_out(boots, regs, counters)
-        | frame_out(size, stage, load)
-        | cycle_out(size, cycle)
-        | power_out(d.power, d.mark, stage, cycle)
-        | detect::range::events_out(regs[EVENT], events)
+    let stage = d.frame.stage;
+    clock_out(part::boots(part), d.regs, d.counters)
+        | frame_out(size, stage, d.load)
+        | cycle_out(size, d.cycle)
+        | power_out(d.power, d.mark, stage, d.cycle)
+        | detect::range::events_out(d.regs[EVENT], d.events)
 }

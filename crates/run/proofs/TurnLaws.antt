@@ -5,6 +5,7 @@ use Prim.Native.Nat.{ℕ, zero, suc, ◌+◌, ◌-◌, ◌<◌, ◌≤◌, min}
 use mathlib.Core.Path.{◌≡◌, refl, sym, ap, subst, ◌∙◌}
 use mathlib.Core.Bool.{true, not}
 use mathlib.Core.List.{List, [], ◌∷◌, ◌++◌}
+use Rattle.std.specs.Prelude.{Ok, Err}
 use native.Mathlib.Nat.{zero-sub, sub-zero, suc-sub-suc}
 use native.Mathlib.Numerals.{add-one}
 use native.Mathlib.Omega.{arith}
@@ -15,24 +16,26 @@ use lib.Seq.{drop-cons}
 use Rattle.base.specs.Words.{pick, over}
 use Rattle.base.proofs.Tests.{row, neither_left, neither_right}
 use Rattle.record.specs.declared.Act.{Act}
+use Rattle.record.specs.declared.Act.TheVariants.{Select, Byte, End, Wait, Cut, Up, Set}
 use Rattle.record.specs.declared.Device.{Device}
 use Rattle.record.specs.Part.{is_part, size_of, id_size}
 use Rattle.record.specs.Fresh.{fresh}
-use Rattle.refusals.specs.Refusal.{wrong_length, setup_refusal}
+use Rattle.refusals.specs.Refusal.{refusal_number, wrong_length, setup_refusal}
 use Rattle.refusals.proofs.RangeLaws.{in_range_lem, fresh_in_range}
 use Rattle.refusals.proofs.TableLaws.{setup_passed, setup_passes}
 use Rattle.record.specs.Numbers.{act_of, act_count}
 use Rattle.record.specs.World.{World, world, Bytes, Sized, fresh_world}
-use Rattle.acts.specs.declared.Answer.{Answer}
-use Rattle.acts.specs.Act.{Outcome, performed, outcome_of}
+use Rattle.acts.specs.Act.{Outcome, performed}
 use Rattle.acts.proofs.SuitedLaws.{performed_suited}
 use Rattle.acts.proofs.ValidLaws.{Valid}
 use Rattle.ledger.specs.State.{Step, start}
 use Rattle.ledger.specs.Steps.{ledger_run}
 use Rattle.run.specs.declared.Ran.{Ran}
+use Rattle.refusals.specs.declared.Refusal.{Refusal}
 use Rattle.run.specs.Claim.{Input, Accounted, used_by, our_chip, world_after, steps_of, told, DemandThree}
 use Rattle.run.specs.Begin.{ledger_of, AccountedFrom, DemandThreeFrom}
-use Rattle.run.specs.Run.{refuses_run, inputs_of, inputs_in, numbers_of, ticks_of, steps_by, Performed, Run, RunFrom}
+use Rattle.refusals.proofs.NumberLaws.{refusal_not_zero}
+use Rattle.run.specs.Run.{answered, refuses_run, inputs_of, inputs_in, numbers_of, ticks_of, steps_by, Performed, Run, RunFrom}
 use Rattle.run.proofs.DemandThree.{demand_three_lem}
 use Rattle.run.proofs.BeginAgrees.{demand_three_from}
 
@@ -103,23 +106,23 @@ left_all part codes ns room answers used w =
 -- an act performed
 left_less :
     (part : ℕ) (xs rest : List Input) (x : Input) (answers₀ used₀ : List ℕ) (w₀ : World) (i : ℕ) (answers used : List ℕ) (w : World)
-    (a : Answer) (ee id : List ℕ)
-    → i < length answers → i < length used → outcome_of a ee id ≡ performed part x.act x.arg w
+    (a : Outcome)
+    → i < length answers → i < length used → a ≡ performed part x.act x.arg w
     → Left part xs (x ∷ rest) answers₀ used₀ w₀ i answers used w
-    → Left part xs rest answers₀ used₀ w₀ (i + 1) (set answers i a.number) (set used i (used_by x.act a.count)) (world a.device ee id)
+    → Left part xs rest answers₀ used₀ w₀ (i + 1) (set answers i a.number) (set used i (used_by x.act a.count)) a.after
 unfolding world_after numbers_of ticks_of our_chip
-left_less part xs rest x answers₀ used₀ w₀ i answers used w a ee id s t e l =
+left_less part xs rest x answers₀ used₀ w₀ i answers used w a s t e l =
     record {
       after = ap (λ (o : Outcome). world_after our_chip part rest o.after) e ∙ l.after;
       count = let n = l.count in omega arith;
       numbers =
           rw add-one
-          (sym (over_more i a.number (numbers_of part rest (world a.device ee id)) answers s)
+          (sym (over_more i a.number (numbers_of part rest a.after) answers s)
           ∙ ap (λ (o : Outcome). take i answers ++ over (o.number ∷ numbers_of part rest o.after) (drop i answers)) e
           ∙ l.numbers);
       ticks =
           rw add-one
-          (sym (over_more i (used_by x.act a.count) (ticks_of part rest (world a.device ee id)) used t)
+          (sym (over_more i (used_by x.act a.count) (ticks_of part rest a.after) used t)
           ∙ ap (λ (o : Outcome). take i used ++ over (used_by x.act o.count ∷ ticks_of part rest o.after) (drop i used)) e
           ∙ l.ticks);
     }
@@ -127,17 +130,27 @@ left_less part xs rest x answers₀ used₀ w₀ i answers used w a ee id s t e 
 -- a turn of the loop, by what it calls
 pub left_turn :
     (part : ℕ) (xs : List Input) (answers₀ used₀ : List ℕ) (w₀ : World) (i : ℕ) (codes ns : List ℕ) (room : ℕ) (answers used : List ℕ) (w : World)
-    (act : Act) (a : Answer) (u : ℕ) (ee id : List ℕ)
+    (act : Act) (a : Outcome) (u : ℕ)
     → i < length codes → i < length ns → i < room → i < length answers → i < length used
-    → get_or codes i 0 < act_count → act ≡ act_of (get_or codes i 0) → outcome_of a ee id ≡ performed part act (get_or ns i 0) w → u ≡ used_by act a.count
+    → get_or codes i 0 < act_count → act ≡ act_of (get_or codes i 0) → a ≡ performed part act (get_or ns i 0) w → u ≡ used_by act a.count
     → Left part xs (inputs_from i codes ns room) answers₀ used₀ w₀ i answers used w
-    → Left part xs (inputs_from (i + 1) codes ns room) answers₀ used₀ w₀ (i + 1) (set answers i a.number) (set used i u) (world a.device ee id)
-left_turn part xs answers₀ used₀ w₀ i codes ns room answers used w act a u ee id c n r s t h f e g l =
+    → Left part xs (inputs_from (i + 1) codes ns room) answers₀ used₀ w₀ (i + 1) (set answers i a.number) (set used i u) a.after
+left_turn part xs answers₀ used₀ w₀ i codes ns room answers used w act a u c n r s t h f e g l =
     let x : Input = record { act = act_of (get_or codes i 0); arg = get_or ns i 0 } in
     let m = rw (lt-ltb (get_or codes i 0) act_count h) at (inputs_at i codes ns room c n r) in
     rw (g, f)
-    (left_less part xs (inputs_from (i + 1) codes ns room) x answers₀ used₀ w₀ i answers used w a ee id s t (rw f at e)
+    (left_less part xs (inputs_from (i + 1) codes ns room) x answers₀ used₀ w₀ i answers used w a s t (rw f at e)
     (subst (λ (rest : List Input). Left part xs rest answers₀ used₀ w₀ i answers used w) m l))
+
+-- an act that is answered a count of 0 used no ticks
+pub none_used : (act : Act) → 0 ≡ used_by act 0
+none_used Select = refl
+none_used Byte = refl
+none_used End = refl
+none_used Wait = refl
+none_used Cut = refl
+none_used Up = refl
+none_used (Set p) = refl
 
 -- nothing left
 pub left_none :
@@ -207,30 +220,31 @@ suits_start part d ee id z f =
     ∙ setup_passes part fresh ee id (record { known = a.known; eeprom = a.eeprom; ids = a.id; ranged = fresh_in_range part a.known })
 
 pub suits_turn :
-    (part : ℕ) (act : Act) (arg : ℕ) (w : World) (a : Answer) (ee id : List ℕ) → outcome_of a ee id ≡ performed part act arg w
-    → setup_refusal part w.device (length w.eeprom) (length w.id) ≡ 0 → setup_refusal part a.device (length ee) (length id) ≡ 0
-suits_turn part act arg w a ee id e s =
+    (part : ℕ) (act : Act) (arg : ℕ) (w : World) (a : Outcome) → a ≡ performed part act arg w
+    → setup_refusal part w.device (length w.eeprom) (length w.id) ≡ 0
+    → setup_refusal part a.after.device (length a.after.eeprom) (length a.after.id) ≡ 0
+suits_turn part act arg w a e s =
     ap (λ (o : Outcome). setup_refusal part o.after.device (length o.after.eeprom) (length o.after.id)) e ∙ performed_suited part act arg w s
 
 -- a refused run
 pub run_refused :
-    (part : ℕ) (codes ns answers used ee id : List ℕ) (r : Ran) → (r.number ≡ 0 → ⊥) → r.number ≡ refuses_run part (length ee) (length id) → r.count ≡ 0
-    → r.device ≡ fresh → Run part codes ns answers answers used used ee ee id id r
-run_refused part codes ns answers used ee id r h e n d =
+    (part : ℕ) (codes ns answers used ee id : List ℕ) (e : Refusal) → refusal_number e ≡ refuses_run part (length ee) (length id)
+    → Run part codes ns answers answers used used ee ee id id (answered fresh (Err e))
+run_refused part codes ns answers used ee id e p =
     record {
-      refused = λ z. (e, n, d, refl, refl, refl, refl);
-      done = λ z. absurd (h (e ∙ z));
-      demand_three = λ z. absurd (h (e ∙ z));
+      refused = λ z. (p, refl, refl, refl, refl, refl, refl);
+      done = λ z. absurd (refusal_not_zero e (p ∙ z));
+      demand_three = λ z. absurd (refusal_not_zero e (p ∙ z));
     }
 
 -- a run whose acts were performed from a fresh chip and memories filled with FFh
 pub run_done :
     (part : ℕ) (codes ns answers answers' used used' ee ee₁ ee' id id₁ id' : List ℕ) (d : Device) (r : Ran)
-    → refuses_run part (length ee) (length id) ≡ 0 → d ≡ fresh → ee₁ ≡ replicate (length ee) 255 → id₁ ≡ replicate (length id) 255 → r.number ≡ 0
+    → refuses_run part (length ee) (length id) ≡ 0 → d ≡ fresh → ee₁ ≡ replicate (length ee) 255 → id₁ ≡ replicate (length id) 255
     → Performed part (inputs_in codes ns answers used) answers answers' used used'
     (world d ee₁ id₁) (world r.device ee' id') r.count
-    → Run part codes ns answers answers' used used' ee ee' id id' r
-run_done part codes ns answers answers' used used' ee ee₁ ee' id id₁ id' d r z f p q m k =
+    → Run part codes ns answers answers' used used' ee ee' id id' (answered fresh (Ok r))
+run_done part codes ns answers answers' used used' ee ee₁ ee' id id₁ id' d r z f p q k =
     let a = accepted part (length ee) (length id) z in
     let s : world d ee₁ id₁ ≡ fresh_world part =
     λ i. world (f i) ((p ∙ ap (λ (n : ℕ). replicate n 255) a.eeprom) i) ((q ∙ ap (λ (n : ℕ). replicate n 255) a.id) i) in
@@ -240,28 +254,28 @@ run_done part codes ns answers answers' used used' ee ee₁ ee' id id₁ id' d r
     subst (λ (v : World). Performed part xs answers answers' used used' v w r.count) s k in
     record {
       refused = λ h. absurd (h z);
-      done = λ y. (m, g);
+      done = λ y. (refl, g);
       demand_three = λ y. accounted part xs answers answers' used used' w r.count a.known g;
     }
 
 -- a run from a beginning that is refused
 pub from_refused :
-    (part : ℕ) (d : Device) (codes ns answers used ee id : List ℕ) (r : Ran) → (r.number ≡ 0 → ⊥) → r.number ≡ setup_refusal part d (length ee) (length id)
-    → r.count ≡ 0 → r.device ≡ d → RunFrom part d codes ns answers answers used used ee ee id id r
-from_refused part d codes ns answers used ee id r h e n q =
+    (part : ℕ) (d : Device) (codes ns answers used ee id : List ℕ) (e : Refusal) → refusal_number e ≡ setup_refusal part d (length ee) (length id)
+    → RunFrom part d codes ns answers answers used used ee ee id id (answered d (Err e))
+from_refused part d codes ns answers used ee id e p =
     record {
-      refused = λ z. (e, n, q, refl, refl, refl, refl);
-      done = λ z. absurd (h (e ∙ z));
-      demand_three = λ z. absurd (h (e ∙ z));
+      refused = λ z. (p, refl, refl, refl, refl, refl, refl);
+      done = λ z. absurd (refusal_not_zero e (p ∙ z));
+      demand_three = λ z. absurd (refusal_not_zero e (p ∙ z));
     }
 
 -- and one whose acts were performed from there; lengths of arrays and bytes are those that the types give
 pub from_done :
     (part : ℕ) (d : Device) (codes ns answers answers' used used' ee ee' id id' : List ℕ) (r : Ran) → setup_refusal part d (length ee) (length id) ≡ 0
-    → Sized d → Bytes ee → Bytes id → r.number ≡ 0
+    → Sized d → Bytes ee → Bytes id
     → Performed part (inputs_in codes ns answers used) answers answers' used used' (world d ee id) (world r.device ee' id') r.count
-    → RunFrom part d codes ns answers answers' used used' ee ee' id id' r
-from_done part d codes ns answers answers' used used' ee ee' id id' r z sized b c m k =
+    → RunFrom part d codes ns answers answers' used used' ee ee' id id' (answered d (Ok r))
+from_done part d codes ns answers answers' used used' ee ee' id id' r z sized b c k =
     let a = setup_passed part d (length ee) (length id) z in
     let v : Valid part (world d ee id) =
     record {
@@ -270,6 +284,6 @@ from_done part d codes ns answers answers' used used' ee ee' id id' r z sized b 
     } in
     record {
       refused = λ h. absurd (h z);
-      done = λ y. (m, k);
+      done = λ y. (refl, k);
       demand_three = λ y. accounted_from part (inputs_in codes ns answers used) answers answers' used used' (world d ee id) (world r.device ee' id') r.count a.known v k;
     }

@@ -1,14 +1,15 @@
 -- A list of acts as slices: act codes, their arguments, and lent slices for the numbers answered and the ticks used. What the functions
 -- `run` and `run_from` give, refused or not.
 -- Assumes nothing.
-use Rattle.std.specs.Prelude.{ℕ, zero, suc, min, ◌≡◌, false, not, List, [], ◌∷◌, ◌++◌, ltb, length}
+use Rattle.std.specs.Prelude.{ℕ, zero, suc, min, ◌≡◌, false, not, List, [], ◌∷◌, ◌++◌, ltb, length, Result, Ok, Err}
 use Rattle.base.specs.Words.{pick, over}
 use Rattle.record.specs.declared.Device.{Device}
 use Rattle.record.specs.Fresh.{fresh}
 use Rattle.record.specs.Numbers.{act_of, act_count}
 use Rattle.record.specs.Part.{is_part}
 use Rattle.record.specs.World.{World, world, fresh_world}
-use Rattle.refusals.specs.Refusal.{wrong_length, first_refusal, setup_refusal}
+use Rattle.refusals.specs.declared.Refusal.{Refusal}
+use Rattle.refusals.specs.Refusal.{refusal_number, wrong_length, first_refusal, setup_refusal}
 use Rattle.acts.specs.Act.{performed}
 use Rattle.ledger.specs.State.{Step, start}
 use Rattle.ledger.specs.Steps.{ledger_run}
@@ -56,8 +57,19 @@ pub record Performed (part : ℕ) (xs : List Input) (answers answers' used used'
   pub numbers : answers' ≡ over (numbers_of part xs w) answers
   pub ticks : used' ≡ over (ticks_of part xs w) used
 
+-- what a run answers, in numbers: a refusal's or 0, how many acts were performed, and the record after them
+pub record Answered : Type 0 where
+  pub number : ℕ
+  pub count : ℕ
+  pub device : Device
+
+-- the code's answer in numbers, where d is the record that a run begins with: a refused one performs no act and leaves d
+abbrev pub answered : Device → Result Ran Refusal → Answered
+answered d (Ok r) = record { number = 0; count = r.count; device = r.device }
+answered d (Err e) = record { number = refusal_number e; count = 0; device = d }
+
 -- what a run leaves: in the slices before and after, and its answer
-pub record Run (part : ℕ) (codes args answers answers' used used' ee ee' id id' : List ℕ) (r : Ran) : Type 0 where
+pub record Run (part : ℕ) (codes args answers answers' used used' ee ee' id id' : List ℕ) (r : Answered) : Type 0 where
   -- refused: nothing changed
   pub refused :
       (refuses_run part (length ee) (length id) ≡ 0 → ⊥)
@@ -76,7 +88,7 @@ pub record Run (part : ℕ) (codes args answers answers' used used' ee ee' id id
       (ledger_run part (steps_by (inputs_in codes args answers used) used') start)
 
 -- R18. what a run leaves that begins with a record d and the bytes in the memories: in the slices before and after, and its answer
-pub record RunFrom (part : ℕ) (d : Device) (codes args answers answers' used used' ee ee' id id' : List ℕ) (r : Ran) : Type 0 where
+pub record RunFrom (part : ℕ) (d : Device) (codes args answers answers' used used' ee ee' id id' : List ℕ) (r : Answered) : Type 0 where
   -- refused, by the rows of the table that judge part, memories and record: nothing changed, and the record is answered as it was given
   pub refused :
       (setup_refusal part d (length ee) (length id) ≡ 0 → ⊥)

@@ -2,6 +2,7 @@
 
 // A chip saved as text, and loaded from it.
 ghost use Rattle.std.specs.Prelude.{◌≡◌};
+ghost use Rattle.refusals.specs.Refusal.{setup_refusal};
 ghost use Rattle.record.specs.World.{world};
 ghost use Rattle.form.specs.Save.{saves, loads};
 ghost use Rattle.saved.specs.Answer.{saving_of, loading_of};
@@ -43,11 +44,21 @@ pub struct Loaded {
     pub device: Device,
 }
 
+// The number of what is wrong with part, memories and record, 0 where nothing is.
+fn setup_number(part: u64, device: Device, eeprom: usize, id: usize) -> u8
+    ensures { result ≡ setup_refusal part device eeprom id }
+{
+    match refusals::setup_refusal(part, device, eeprom, id) {
+        Ok(()) => 0,
+        Err(refusal) => u8::from(refusal),
+    }
+}
+
 // Puts the text of a chip into the room lent. Refused by 3, 4 and 6 as an act is, then by 8 where there is too little room; then nothing is written.
 pub fn save(part: u64, device: Device, eeprom: &[u8], id: &[u8], into: &mut [u8]) -> Saved
     ensures { saving_of result into.new ≡ saves part (world device eeprom.now id.now) into.old }
 {
-    let refused = refusals::setup_refusal(part, device, eeprom.len(), id.len());
+    let refused = setup_number(part, device, eeprom.len(), id.len());
     if refused != 0 {
         return Saved {
             number: refused,

@@ -18,41 +18,29 @@ leftover_reply-reply-requires c =
 
 pub wait_act-requires : goal.wait_act-requires
 wait_act-requires c =
-    let s = suits _ _ _ _ _ _ c.requires in
-    (s.page_eeprom, s.page_id)
+    (suits _ _ _ _ _ _ c.requires).page
 
 pub cut_act-requires : goal.cut_act-requires
 cut_act-requires c =
-    let s = suits _ _ _ _ _ _ c.requires in
-    (s.page_eeprom, s.page_id)
-
-pub returns-in-Select : goal.returns-in-Select
-returns-in-Select c = simp (c.in-Select.is, c.silent.ensures, c.after_select.ensures)
+    (suits _ _ _ _ _ _ c.requires).page
 
 pub returns-in-Byte : goal.returns-in-Byte
 returns-in-Byte c =
     let e = c.in-Byte.is in
     let n = accepted_byte _ _ _ _ _ (rw e at c.requires) in
-    simp (e, c.replied.ensures, c.next_reply-reply.ensures, c.after_byte-device.ensures, c.boots-boots.ensures, c.top-top.ensures, n)
+    simp (e, c.next_reply-reply.ensures, c.after_byte-device.ensures, c.boots-boots.ensures, c.top-top.ensures, n)
 
 pub returns-in-End : goal.returns-in-End
 returns-in-End c =
     let e = c.in-End.is in
     let n = accepted_end _ _ _ _ _ (rw e at c.requires) in
-    simp (e, c.replied-in-End.ensures, c.leftover_reply-reply.ensures, c.after_end-device.ensures, c.top-top.ensures, n)
-
-pub returns-in-Wait : goal.returns-in-Wait
-returns-in-Wait c =
-    simp (c.in-Wait.is, c.wait_act.ensures, c.boots-boots.ensures)
+    simp (e, c.leftover_reply-reply.ensures, c.after_end-device.ensures, c.top-top.ensures, n)
 
 pub returns-in-Cut : goal.returns-in-Cut
 returns-in-Cut c =
     let e = c.in-Cut.is in
     let n = accepted_cut _ _ _ _ _ (rw e at c.requires) in
     simp (e, c.cut_act.ensures, n)
-
-pub returns-in-Up : goal.returns-in-Up
-returns-in-Up c = simp (c.in-Up.is, c.silent-in-Up.ensures, c.after_up.ensures)
 
 pub returns-in-Set : goal.returns-in-Set
 returns-in-Set c =

@@ -1,41 +1,48 @@
 -- `batch::perform_all`: before each turn, what is left of the acts gives the same answer as all of them from the start.
 -- Assumes nothing.
-use mathlib.Core.Path.{refl}
+use Prim.Native.Nat.{ℕ, ◌≤◌, min}
+use mathlib.Core.Path.{◌≡◌, ap, ◌∙◌}
 use native.Mathlib.Omega.{arith}
-use lib.ListN.{length-set}
+use lib.ListN.{length, get_or}
 use Rattle.record.specs.World.{world}
-use Rattle.run.proofs.TurnLaws.{left_all, left_turn, left_none, inputs_none, inputs_end, suits_turn}
+use Rattle.acts.specs.Act.{outcome_done, refused, performed}
+use Rattle.run.proofs.TurnLaws.{none_used, left_turn, left_none, inputs_none, inputs_end, suits_turn}
 use Rattle.batch.proofs.perform_all.Goals as goal
+use Rattle.batch.proofs.perform_all.Goals.{in-Ok, in-Err}
 
-pub loop-i-init : goal.loop-i-init
-loop-i-init c = (omega arith, refl, refl, refl, refl, left_all _ _ _ _ _ _ _, c.requires)
-
-pub returns-then-code-ge-ACTS : goal.returns-then-code-ge-ACTS
-returns-then-code-ge-ACTS c =
+pub returns-then-codes-i-ge-ACTS : goal.returns-then-codes-i-ge-ACTS
+returns-then-codes-i-ge-ACTS c =
     let l = c.loop-i in
-    (refl, left_none _ _ _ _ _ _ _ _ _ _ (inputs_none l.i _ _ _ (omega arith) (omega arith) (omega arith) (omega arith)) l.invariant.5)
-
-pub perform_in_range-a-requires : goal.perform_in_range-a-requires
-perform_in_range-a-requires c = c.loop-i.invariant.6
-
-pub offset_bounds-used-i : goal.offset_bounds-used-i
-offset_bounds-used-i c =
-    omega (arith, c.well_formed.1.1.1.1.1.0.1)
+    left_none _ _ _ _ _ _ _ _ _ _ (inputs_none l.i _ _ _ (omega arith) (omega arith) (omega arith) (omega arith)) l.invariant.0
 
 pub loop-i-preserved : goal.loop-i-preserved
 loop-i-preserved c =
-    let l = c.loop-i in (
-      omega arith,
-      simp length-set l.invariant.1,
-      simp length-set l.invariant.2,
-      omega arith,
-      omega arith,
-      left_turn _ _ _ _ _ l.i _ _ _ _ _ (world l.chip l.eeprom l.id) _ _ _ _ _ (omega arith) (omega arith) (omega arith) (omega arith) (omega arith) (omega arith)
-          c.act_of-act.ensures c.perform_in_range-a.ensures c.ticks_of.ensures l.invariant.5,
-      suits_turn _ _ _ (world l.chip l.eeprom l.id) _ _ _ c.perform_in_range-a.ensures l.invariant.6,
-    )
+    let l = c.loop-i in
+    let p = c.perform_in_range in
+    elim c.match-perform_in_range.branch [
+      | in-Ok w ↦
+          let a = outcome_done w.in-Ok.a p.new.eeprom p.new.id in
+          rw (w.answers-is, w.used-is, w.chip-is) (
+            left_turn _ _ _ _ _ l.i _ _ _ _ _ (world l.chip l.eeprom l.id) _ a _ (omega arith) (omega arith) (omega arith) (omega arith) (omega arith) (omega arith)
+                c.act_of-act.ensures w.in-Ok.ensures w.ticks_of.ensures l.invariant.0,
+            suits_turn _ _ _ (world l.chip l.eeprom l.id) a w.in-Ok.ensures l.invariant.1,
+          )
+      | in-Err w ↦
+          let r = refused w.from.result (world l.chip p.new.eeprom p.new.id) in
+          let e : r ≡ performed c.args.part c.act_of-act.result (get_or c.args.args.now l.i 0) (world l.chip l.eeprom l.id) =
+          ap (λ (n : ℕ). refused n (world l.chip p.new.eeprom p.new.id)) w.from.ensures ∙ w.in-Err.ensures in
+          rw (w.answers-is, w.used-is, w.chip-is) (
+            left_turn _ _ _ _ _ l.i _ _ _ _ _ (world l.chip l.eeprom l.id) _ r 0 (omega arith) (omega arith) (omega arith) (omega arith) (omega arith) (omega arith)
+                c.act_of-act.ensures e (none_used c.act_of-act.result) l.invariant.0,
+            suits_turn _ _ _ (world l.chip l.eeprom l.id) r e l.invariant.1,
+          )
+    ]
 
 pub returns : goal.returns
 returns c =
     let l = c.loop-i in
-    (refl, left_none _ _ _ _ _ _ _ _ _ _ (inputs_end l.i _ _ _ (omega arith)) l.invariant.5)
+    let a = c.args in
+    let room = min (length a.answers.now) (length a.used.now) in
+    let e : l.i ≡ c.min-most.result = omega arith in
+    let h : min (min (length a.codes.now) (length a.args.now)) room ≤ l.i = omega arith in
+    rw (← e) (left_none _ _ _ _ _ _ _ _ _ _ (inputs_end l.i a.codes.now a.args.now room h) l.invariant.0)

@@ -1,9 +1,14 @@
 -- `calls::mcp795_act`: by the case that it is in.
 -- Assumes nothing.
+use Prim.Native.Nat.{ℕ}
 use native.Mathlib.Omega.{arith}
+use mathlib.Core.Path.{ap, ◌∙◌}
 use lib.ListN.{length}
+use Rattle.std.proofs.Common.{rules}
+use Rattle.record.specs.World.{Bytes, world}
+use Rattle.acts.specs.Act.{outcome_done, refused}
 use Rattle.arrays.specs.Arrays.{arrays}
-use Rattle.calls.proofs.CallLaws.{state_long, state_there, setup_there, act_refused, act_none, act_done}
+use Rattle.calls.proofs.CallLaws.{state_again, state_long, state_there, setup_there, act_refused, act_none, act_done}
 use Rattle.calls.proofs.mcp795_act.Goals as goal
 
 pub returns-then-refused-ne0 : goal.returns-then-refused-ne0
@@ -26,8 +31,8 @@ returns-then-act-gt7 c =
     let a = c.args in
     act_none (arrays a.state.now a.eeprom.now a.id.now) _ c.state_refusal-refused.ensures a.act a.number c.if-refused-ne0.false _ _ (omega arith) c.put_answer.ensures c.device_in-device.ensures
 
-pub perform_in_range-a-requires : goal.perform_in_range-a-requires
-perform_in_range-a-requires c =
+pub perform_in_range-requires : goal.perform_in_range-requires
+perform_in_range-requires c =
     let a = c.args in
     setup_there a.state.now (length a.eeprom.now) (length a.id.now) _ c.state_refusal-refused.ensures c.if-refused-ne0.false _ _ c.part_of-part.ensures c.device_in-device.ensures
 
@@ -36,7 +41,22 @@ put_state-requires c =
     let a = c.args in
     state_long a.state.now (length a.eeprom.now) (length a.id.now) _ c.state_refusal-refused.ensures c.if-refused-ne0.false
 
-pub returns : goal.returns
-returns c =
+pub returns-in-Ok : goal.returns-in-Ok
+returns-in-Ok c =
     let a = c.args in
-    act_done (arrays a.state.now a.eeprom.now a.id.now) _ c.state_refusal-refused.ensures a.act a.number c.if-refused-ne0.false _ _ _ _ _ _ _ _ c.part_of-part.ensures c.if-act-gt7.false c.act_of-code.ensures c.device_in-device.ensures c.perform_in_range-a.ensures c.put_state.ensures c.put_answer-2.ensures
+    let p = c.perform_in_range in
+    act_done (arrays a.state.now a.eeprom.now a.id.now) _ c.state_refusal-refused.ensures a.act a.number c.if-refused-ne0.false _ _ _ _ _ (outcome_done c.in-Ok.a p.new.eeprom p.new.id)
+    c.part_of-part.ensures c.if-act-gt7.false c.act_of-code.ensures c.device_in-device.ensures c.in-Ok.ensures c.put_state.ensures c.put_answer-in-Ok.ensures
+
+pub returns-in-Err : goal.returns-in-Err
+returns-in-Err c =
+    let a = c.args in
+    let p = c.perform_in_range in
+    let n = c.from-refused.result in
+    let d = c.device_in-device.result in
+    let b : Bytes a.state.now = search rules in
+    act_done (arrays a.state.now a.eeprom.now a.id.now) _ c.state_refusal-refused.ensures a.act a.number c.if-refused-ne0.false _ _ _ _ _ (refused n (world d p.new.eeprom p.new.id))
+    c.part_of-part.ensures c.if-act-gt7.false c.act_of-code.ensures c.device_in-device.ensures
+    (ap (λ (m : ℕ). refused m (world d p.new.eeprom p.new.id)) c.from-refused.ensures ∙ c.in-Err.ensures)
+    (state_again a.state.now (length a.eeprom.now) (length a.id.now) _ c.state_refusal-refused.ensures c.if-refused-ne0.false b _ _ c.part_of-part.ensures c.device_in-device.ensures)
+    c.put_answer-in-Err.ensures

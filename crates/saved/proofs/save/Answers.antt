@@ -36,14 +36,14 @@ returns-then-refused-ne0 c =
     let id = a.id.now in
     let w = world a.device ee id in
     let room = a.into.now in
-    save_refused a.part w room _ c.setup_refusal-refused.ensures c.if-refused-ne0.true
+    save_refused a.part w room _ c.setup_number-refused.ensures c.if-refused-ne0.true
 
 pub numbers_of-count-requires : goal.numbers_of-count-requires
 numbers_of-count-requires c =
     let a = c.args in
     let ee = a.eeprom.now in
     let id = a.id.now in
-    let z = sym c.setup_refusal-refused.ensures ∙ c.if-refused-ne0.false in
+    let z = sym c.setup_number-refused.ensures ∙ c.if-refused-ne0.false in
     let s = record_sized a.device _ c.well_formed.1.0 in
     let be : Bytes ee = λ i. (c.type_inv.eeprom i).fits in
     let bi : Bytes id = λ i. (c.type_inv.id i).fits in
@@ -55,7 +55,7 @@ put_rows-length-requires c =
     let ee = a.eeprom.now in
     let id = a.id.now in
     let w = world a.device ee id in
-    let z = sym c.setup_refusal-refused.ensures ∙ c.if-refused-ne0.false in
+    let z = sym c.setup_number-refused.ensures ∙ c.if-refused-ne0.false in
     let s = record_sized a.device _ c.well_formed.1.0 in
     let be : Bytes ee = λ i. (c.type_inv.eeprom i).fits in
     let bi : Bytes id = λ i. (c.type_inv.id i).fits in
@@ -76,7 +76,7 @@ returns-then-into-length c =
     let id = a.id.now in
     let w = world a.device ee id in
     let room = a.into.now in
-    let z = sym c.setup_refusal-refused.ensures ∙ c.if-refused-ne0.false in
+    let z = sym c.setup_number-refused.ensures ∙ c.if-refused-ne0.false in
     let s = record_sized a.device _
     c.well_formed.1.0 in
     let be : Bytes ee = λ i. (c.type_inv.eeprom i).fits in
@@ -98,7 +98,7 @@ put-requires c =
     let id = a.id.now in
     let w = world a.device ee id in
     let room = a.into.now in
-    let z = sym c.setup_refusal-refused.ensures ∙
+    let z = sym c.setup_number-refused.ensures ∙
     c.if-refused-ne0.false in
     let s = record_sized a.device _
     c.well_formed.1.0
@@ -125,7 +125,7 @@ returns c =
     let w = world a.device ee id in
     let room = a.into.now in
     let z = sym
-    c.setup_refusal-refused.ensures
+    c.setup_number-refused.ensures
     ∙ c.if-refused-ne0.false in
     let s = record_sized a.device _
     c.well_formed.1.0

@@ -10,20 +10,20 @@ use Rattle.refusals.specs.Range.{inside_mask, bit_outside}
 use Rattle.refusals.proofs.range.bit_outside.Goals as goal
 
 pub loop-i-init : goal.loop-i-init
-loop-i-init c = (omega arith, every_none _)
+loop-i-init c = every_none _
 
-pub returns-then-regs-i : goal.returns-then-regs-i
+pub returns-then-r-kept : goal.returns-then-r-kept
 unfolding bit_outside
-returns-then-regs-i c =
+returns-then-r-kept c =
     let i : ℕ = c.loop-i.i in
     let h : i < 32 = omega arith in
-    simp (every_false (inside_mask c.args.regs) 32 i h (ne_eqb _ _ (rw c.kept_bits-kept.ensures at c.if-regs-i.true)))
+    simp (every_false (inside_mask c.args.regs) 32 i h (ne_eqb _ _ (rw c.kept_bits-kept.ensures at c.if-r-kept.true)))
 
 pub loop-i-preserved : goal.loop-i-preserved
-loop-i-preserved c = (omega arith, every_more _ _ c.loop-i.invariant.1 (eq-eqb _ _ (rw c.kept_bits-kept.ensures at c.if-regs-i.false)))
+loop-i-preserved c = every_more _ _ c.loop-i.invariant (eq-eqb _ _ (rw c.kept_bits-kept.ensures at c.if-r-kept.false))
 
 pub returns : goal.returns
 unfolding bit_outside
 returns c =
     let e : c.loop-i.i ≡ 32 = omega arith in
-    simp (rw e at c.loop-i.invariant.1)
+    simp (rw e at c.loop-i.invariant)
