@@ -5,10 +5,11 @@ use mathlib.Core.Bool.{true}
 use mathlib.Core.List.{List, [], ◌∷◌, ◌++◌, append-nil, append_assoc}
 use Prim.Native.Nat.{ℕ, ◌+◌, ◌<◌, ◌≤◌}
 use native.Mathlib.Omega.{arith}
+use borrow.Author.Tests.{eqb-true}
 use lib.Dec.{eqb}
 use lib.ListN.{length, take, drop, get_or, length-append, get_or-eq_default}
 use lib.Seq.{drop-length}
-use Rattle.base.proofs.Tests.{both_right}
+use Rattle.base.proofs.Tests.{both_left, both_right}
 use Rattle.events.specs.declared.Events.{Events}
 use Rattle.record.specs.declared.Counters.{Counters}
 use Rattle.record.specs.declared.Device.{Device}
@@ -18,25 +19,24 @@ use Rattle.record.specs.declared.Stage.{Stage}
 use Rattle.record.specs.declared.Target.{Target}
 use Rattle.record.specs.Numbers.{protection_of, lock_of, stage_of, target_of}
 use Rattle.record.specs.World.{Sized}
-use Rattle.text.specs.Buffer.{buffer, append}
-use Rattle.text.proofs.BufferLaws.{put_then, room_then}
 use Rattle.form.specs.Chip.{tail_numbers, is_record, device_of}
 use Rattle.form.specs.Facts.{StateFacts}
-use Rattle.form.specs.State.{count_at, head_bytes, event_bytes, array_numbers, state_bytes, is_state, state_of}
+use Rattle.form.specs.State.{count_at, counts_bytes, frame_bytes, event_bytes, array_numbers, state_bytes, is_state, state_of}
 use Rattle.form.proofs.FactLaws.{recorded_facts}
 use Rattle.form.proofs.StateLaws.{count_at_lem, high_at, event_at_lem, registers_in, sram_in, load_in}
 use Rattle.numbers.proofs.ChipLaws.{Fields, fields, EventFields, event_fields}
-use Rattle.saved.proofs.AnswerLaws.{put_over}
+use Rattle.std.proofs.lemmas.List.{take_all}
 
--- a text put over all of an array
-pub put_whole : (l m text : List ℕ) (r : ℕ) → length text ≡ length l → buffer m r ≡ append (buffer l 0) text → m ≡ text
-put_whole l m text r h e = put_over l m text r (fits h) e ∙ ap (λ (x : List ℕ). text ++ x) (ap (λ (n : ℕ). drop n l) h ∙ drop-length l) ∙ append-nil text
-  where
-    fits : {a b : ℕ} → a ≡ b → 0 + a ≤ b
-    fits p = omega (arith, p)
+-- an array that is a chip's has its length,
+pub state_long : (bs : List ℕ) → is_state bs ≡ true → length bs ≡ 142
+unfolding is_state
+state_long bs t = eqb-true (length bs) state_bytes (both_left (eqb (length bs) state_bytes) (is_record (array_numbers bs)) t)
 
--- what an array that is a chip's says of its bytes
-module _ (bs : List ℕ) (l : length bs ≡ 142) (t : is_state bs ≡ true) where
+-- and what it says of its bytes
+module _ (bs : List ℕ) (t : is_state bs ≡ true) where
+  abbrev l : length bs ≡ 142
+  l = state_long bs t
+
   facts : StateFacts (array_numbers bs)
   unfolding is_state
   facts = recorded_facts (array_numbers bs) (both_right (eqb (length bs) state_bytes) (is_record (array_numbers bs)) t)
@@ -71,8 +71,7 @@ module _ (bs : List ℕ) (l : length bs ≡ 142) (t : is_state bs ≡ true) wher
   pub debounce_fits : count_at bs 139 < 65536
   debounce_fits = within (sym (event_at_lem bs l 4)) fit_events.debounce
 
--- the record of an array, place by place
-module _ (bs : List ℕ) (l : length bs ≡ 142) where
+  -- the record of the array, place by place
   pub counters_by :
       {a b c d e : ℕ} → a ≡ count_at bs 97 → b ≡ count_at bs 100 → c ≡ count_at bs 103 → d ≡ count_at bs 106 → e ≡ count_at bs 109
       → record { divider = a; startup = b; watchdog = c; delay = d; pulse = e } ≡ (device_of (array_numbers bs)).counters
@@ -136,44 +135,35 @@ module _ (bs : List ℕ) (l : length bs ≡ 142) where
         events = e i;
       }
 
--- The array put: the part, registers and SRAM; the rest behind them.
-front_long : (part : ℕ) (regs sram : List ℕ) → length regs ≡ 32 → length sram ≡ 64 → length (((part ∷ []) ++ regs) ++ sram) ≡ 97
-front_long part regs sram p q = omega (arith, p, q, length-append ((part ∷ []) ++ regs) sram, length-append (part ∷ []) regs)
+-- The array put, piece behind piece.
+behind :
+    (k : ℕ) {n : ℕ} (l m xs : List ℕ) {whole : List ℕ} → take k l ≡ whole → take (k + length xs) m ≡ take k l ++ xs → k + length xs ≡ n → take n m ≡ whole ++ xs
+behind k l m xs e f h = ap (λ (j : ℕ). take j m) (sym h) ∙ f ∙ ap (λ (x : List ℕ). x ++ xs) e
 
-back_long : (head load tail : List ℕ) → length head ≡ 24 → length load ≡ 8 → length tail ≡ 13 → length ((head ++ load) ++ tail) ≡ 45
-back_long head load tail p q r = omega (arith, p, q, r, length-append (head ++ load) tail, length-append head load)
-
-module _ (l m n : List ℕ) (part k r : ℕ) (d : Device) (s : Sized d) (h : length l ≡ 142) {head tail : List ℕ} (he : head ≡ head_bytes d) (te : tail ≡ tail_numbers d.load d.cycle ++ event_bytes d.events) where
-  abbrev front : List ℕ
-  front = ((part ∷ []) ++ d.regs) ++ d.sram
-
-  abbrev back : List ℕ
-  back = (head ++ d.load.bytes) ++ tail
-
-  lengths : (length front ≡ 97) × (length back ≡ 45)
-  lengths = (front_long part d.regs d.sram s.regs s.sram, back_long head d.load.bytes tail (ap length he) s.bytes (ap length te))
-
-  pub front_fits : 0 + length front ≤ length l
-  front_fits = omega (arith, h, lengths.0)
-
-  pub back_fits : buffer m k ≡ append (buffer l 0) front → k + length back ≤ length m
-  back_fits e = room_then (buffer l 0) front back e (fits (length-append front back) lengths.0 lengths.1 h)
-    where
-      fits : {a b c e : ℕ} → a ≡ b + c → b ≡ 97 → c ≡ 45 → e ≡ 142 → 0 + a ≤ e
-      fits p q u v = omega (arith, p, q, u, v)
-
-  pub state_put : buffer m k ≡ append (buffer l 0) front → buffer n r ≡ append (buffer m k) back → n ≡ state_of part d
-  unfolding state_of
-  state_put e f =
-      put_whole l n (front ++ back) r (all (length-append front back) lengths.0 lengths.1 h) (put_then (buffer l 0) front back e f)
-      ∙ joined d.regs d.sram head d.load.bytes tail
-      ∙ (λ i. part ∷ (d.regs ++ (d.sram ++ (he i ++ (d.load.bytes ++ te i)))))
-    where
-      all : {a b c e : ℕ} → a ≡ b + c → b ≡ 97 → c ≡ 45 → e ≡ 142 → a ≡ e
-      all p q u v = omega (arith, p, q, u, v)
-
-      joined : (x y u v w : List ℕ) → (((part ∷ []) ++ x) ++ y) ++ ((u ++ v) ++ w) ≡ part ∷ (x ++ (y ++ (u ++ (v ++ w))))
-      joined x y u v w = append_assoc ((part ∷ []) ++ x) y ((u ++ v) ++ w) ∙ ap (λ (z : List ℕ). part ∷ (x ++ (y ++ z))) (append_assoc u v w)
+pub state_put :
+    (part : ℕ) (d : Device) (a b c e f g h : List ℕ) (counts frame cycle events : List ℕ) → Sized d → length h ≡ 142
+    → take (1 + length d.regs) a ≡ (part ∷ []) ++ d.regs → take (33 + length d.sram) b ≡ take 33 a ++ d.sram
+    → counts ≡ counts_bytes d.counters → take (97 + length counts) c ≡ take 97 b ++ counts
+    → frame ≡ frame_bytes d → take (112 + length frame) e ≡ take 112 c ++ frame
+    → take (121 + length d.load.bytes) f ≡ take 121 e ++ d.load.bytes
+    → cycle ≡ tail_numbers d.load d.cycle → take (129 + length cycle) g ≡ take 129 f ++ cycle
+    → events ≡ event_bytes d.events → take (133 + length events) h ≡ take 133 g ++ events
+    → h ≡ state_of part d
+unfolding state_of
+state_put part d a b c e f g h counts frame cycle events s l r₁ r₂ p₃ r₃ p₄ r₄ r₅ p₆ r₆ p₇ r₇ =
+    let w₁ : take 33 a ≡ (part ∷ []) ++ d.regs = behind 1 (part ∷ []) a d.regs refl r₁ (ap (λ (n : ℕ). 1 + n) s.regs) in
+    let w₂ = behind 33 a b d.sram w₁ r₂ (ap (λ (n : ℕ). 33 + n) s.sram) in
+    let w₃ = behind 97 b c counts w₂ r₃ (ap (λ (x : List ℕ). 97 + length x) p₃) in
+    let w₄ = behind 112 c e frame w₃ r₄ (ap (λ (x : List ℕ). 112 + length x) p₄) in
+    let w₅ = behind 121 e f d.load.bytes w₄ r₅ (ap (λ (n : ℕ). 121 + n) s.bytes) in
+    let w₆ = behind 129 f g cycle w₅ r₆ (ap (λ (x : List ℕ). 129 + length x) p₆) in
+    let w₇ = behind 133 g h events w₆ r₇ (ap (λ (x : List ℕ). 133 + length x) p₇) in
+    sym (take_all 142 h (omega (arith, l))) ∙ w₇ ∙ joined d.regs d.sram counts frame d.load.bytes cycle events
+    ∙ (λ i. part ∷ (d.regs ++ (d.sram ++ ((p₃ i ++ p₄ i) ++ (d.load.bytes ++ (p₆ i ++ p₇ i))))))
+  where
+    joined :
+        (q r s t u v w : List ℕ) → ((((((((part ∷ []) ++ q) ++ r) ++ s) ++ t) ++ u) ++ v) ++ w) ≡ part ∷ (q ++ (r ++ ((s ++ t) ++ (u ++ (v ++ w)))))
+    joined q r s t u v w = simp append_assoc refl
 
 -- an array without a byte begins with none
 pub no_part : (bs : List ℕ) → length bs ≡ 0 → 0 ≡ get_or bs 0 0

@@ -4,19 +4,24 @@ use mathlib.Core.Path.{◌≡◌, refl, sym, ap, ◌∙◌}
 use mathlib.Core.Logic.{◌≢◌, ⊎_elim}
 use mathlib.Core.Bool.{Bool, true, false, not, ◌&&◌, ◌||◌}
 use mathlib.Core.List.{List, [], ◌∷◌}
-use Prim.Native.Nat.{ℕ, ◌+◌, ◌<◌}
+use Prim.Native.Nat.{ℕ, zero, suc, ◌+◌, ◌<◌, ◌≤◌, min}
 use native.Mathlib.Omega.{arith}
 use native.Mathlib.Numerals.{add-one}
 use borrow.Author.Tests.{lt-ltb, ltb-true, ltb-false, leb-false, leb-true, eqb-true, eq-eqb, ne_eqb, not-false}
 use lib.Dec.{ltb, leb, eqb}
 use lib.Bits.{bit_and}
-use lib.ListN.{length, get_or}
+use lib.ListN.{length, take, drop, get_or, length-drop}
+use lib.Seq.{get_or-take, get_or-drop, length-take-le}
+use Rattle.std.specs.List.{fold, zip}
+use Rattle.std.proofs.lemmas.List.{take_all}
+use Rattle.std.proofs.lemmas.List.Sums.{fold_more}
+use Rattle.std.proofs.lemmas.Slice.Zip.{length-zip, get_or-zip}
 use Rattle.base.specs.Words.{bit, every, any_of}
 use Rattle.base.proofs.Tests.{by_cases, true_false, either, neither_left, neither_right, none_holds, some_holds}
 use Rattle.base.proofs.Every.{every_at, every_all, same_below}
 use Rattle.record.specs.Numbers.{stage_of}
 use Rattle.record.specs.Part.{is_part, size_of, boots_of}
-use Rattle.record.specs.Registers.{kept, power_down_at, event_at, period_of, divider_ticks, long_pulse, delay_ticks}
+use Rattle.record.specs.Registers.{writable, kept, power_down_at, event_at, period_of, divider_ticks, long_pulse, delay_ticks}
 use Rattle.record.specs.Stages.{foreign_to_wip}
 use Rattle.record.specs.World.{Bytes}
 use Rattle.record.proofs.StampLaws.{same_masks, stamp_mask}
@@ -27,7 +32,7 @@ use Rattle.form.specs.State.{count_at, array_numbers, state_bytes, is_state}
 use Rattle.form.proofs.FactLaws.{facts_recorded, recorded_facts}
 use Rattle.form.proofs.StateLaws.{low_at, count_at_lem, high_at, event_at_lem, numbers_long}
 use Rattle.numbers.proofs.TableLaws.{left_told}
-use Rattle.arrays.specs.Tests.{is_kept_at, clock_tests, frame_tests, event_tests, clock_bad, frame_bad, events_bad}
+use Rattle.arrays.specs.Tests.{is_kept_at, outside, clock_tests, frame_tests, event_tests, clock_bad, frame_bad, events_bad}
 
 -- a whole byte under a mask of all its bits
 whole_mask_lem : (v : ℕ) → v < 256 → bit_and v 0xff ≡ v
@@ -204,74 +209,40 @@ pub more_bad : (f : ℕ → Bool) (i : ℕ) (bad test : Bool) → bad ≡ not (e
 unfolding every
 more_bad f i bad test e h = (λ k. e k || h k) ∙ neither_not (every f i) (f i) ∙ ap (λ (n : ℕ). not (every f n)) (sym (add-one i))
 
--- the tests with what code's calls answered in their places
-pub clock_by :
-    (bs : List ℕ) {named outside : Bool} {part seconds watchdog startup period a b c d e : ℕ} → part ≡ get_or bs 0 0 → seconds ≡ get_or bs 2 0 → watchdog ≡ get_or bs 11 0
-    → named ≡ is_part part → outside ≡ not (every (is_kept_at bs) power_down_at) → startup ≡ startup_by (boots_of part) (bit seconds 7) → period ≡ period_of watchdog
-    → a ≡ count_at bs 97 → b ≡ count_at bs 100 → c ≡ count_at bs 103 → d ≡ count_at bs 106 → e ≡ count_at bs 109
-    → any_of (not named ∷ outside ∷ leb divider_ticks a ∷ leb startup b ∷ leb period c ∷ leb (1 + delay_ticks) d ∷ leb (1 + long_pulse) e ∷ []) ≡ clock_bad bs
-unfolding clock_bad
-clock_by bs part seconds watchdog named outside startup period a b c d e i =
-    any_of
-    (not ((named ∙ ap is_part part) i)
-    ∷ outside i
-    ∷ leb divider_ticks (a i)
-    ∷ leb ((startup ∙ (λ k. startup_by (boots_of (part k)) (bit (seconds k) 7))) i) (b i)
-    ∷ leb ((period ∙ ap period_of watchdog) i) (c i)
-    ∷ leb (1 + delay_ticks) (d i)
-    ∷ leb (1 + long_pulse) (e i)
-    ∷ [])
+-- register by register is every register
+pub outside_told : (bs : List ℕ) → length bs ≡ 142 → outside bs ≡ not (every (is_kept_at bs) power_down_at)
+unfolding every
+outside_told bs l =
+    ap (fold step false) (sym (take_all 24 pairs (omega (arith, long)))) ∙ so_far 24 (omega arith)
+  where
+    xs : List ℕ
+    xs = take 24 (drop 1 bs)
 
-pub frame_by :
-    (bs : List ℕ) {case : Bool} {power kind which target part size mark kinds value place left a b c d : ℕ} → power ≡ get_or bs 112 0 → kind ≡ get_or bs 117 0
-    → which ≡ get_or bs 118 0 → target ≡ get_or bs 130 0 → part ≡ get_or bs 0 0 → size ≡ size_of part → case ≡ case_good kind which → mark ≡ mark_by (eqb power 1)
-    → kinds ≡ kind_by (eqb power 1) → value ≡ value_limit size kind which → place ≡ target_limit size target
-    → left ≡ left_by (eqb power 1) (foreign_to_wip (stage_of kind which 0)) → a ≡ get_or bs 113 0 → b ≡ get_or bs 119 0 → c ≡ get_or bs 131 0 → d ≡ get_or bs 132 0
-    → any_of
-    (leb 2 power
-    ∷ leb mark a
-    ∷ leb 2 (get_or bs 114 0)
-    ∷ leb 4 (get_or bs 115 0)
-    ∷ leb 3 (get_or bs 116 0)
-    ∷ leb kinds kind
-    ∷ not case
-    ∷ leb value b
-    ∷ leb 8 (get_or bs 129 0)
-    ∷ leb 3 target
-    ∷ leb place c
-    ∷ leb left d
-    ∷ [])
-    ≡ frame_bad bs
-unfolding frame_bad
-frame_by bs power kind which target part size case mark kinds value place left a b c d i =
-    any_of
-    (leb 2 (power i)
-    ∷ leb ((mark ∙ (λ k. mark_by (eqb (power k) 1))) i) (a i)
-    ∷ leb 2 (get_or bs 114 0)
-    ∷ leb 4 (get_or bs 115 0)
-    ∷ leb 3 (get_or bs 116 0)
-    ∷ leb ((kinds ∙ (λ k. kind_by (eqb (power k) 1))) i) (kind i)
-    ∷ not ((case ∙ (λ k. case_good (kind k) (which k))) i)
-    ∷ leb ((value ∙ (λ k. value_limit ((size ∙ ap size_of part) k) (kind k) (which k))) i) (b i)
-    ∷ leb 8 (get_or bs 129 0)
-    ∷ leb 3 (target i)
-    ∷ leb ((place ∙ (λ k. target_limit ((size ∙ ap size_of part) k) (target k))) i) (c i)
-    ∷ leb ((left ∙ (λ k. left_by (eqb (power k) 1) (foreign_to_wip (stage_of (kind k) (which k) 0)))) i) (d i)
-    ∷ [])
+    pairs : List (ℕ × ℕ)
+    pairs = zip xs writable
 
-pub events_by :
-    (bs : List ℕ) {control door edges first since debounce a c : ℕ} → control ≡ get_or bs 12 0 → door ≡ get_or bs 133 0 → edges ≡ get_or bs 135 0
-    → first ≡ edges_by control → since ≡ since_by edges → a ≡ count_at bs 136 → debounce ≡ debounce_by control door → c ≡ count_at bs 139
-    → any_of (leb 2 door ∷ leb 2 (get_or bs 134 0) ∷ leb first edges ∷ leb since a ∷ leb debounce c ∷ []) ≡ events_bad bs
-unfolding events_bad
-events_by bs control door edges first since a debounce c i =
-    any_of
-    (leb 2 (door i)
-    ∷ leb 2 (get_or bs 134 0)
-    ∷ leb ((first ∙ ap edges_by control) i) (edges i)
-    ∷ leb ((since ∙ ap since_by edges) i) (a i)
-    ∷ leb ((debounce ∙ (λ k. debounce_by (control k) (door k))) i) (c i)
-    ∷ [])
+    step : Bool → ℕ × ℕ → Bool
+    step bad p = bad || not (eqb (bit_and p.0 p.1) p.0)
+
+    long_part : length xs ≡ 24
+    long_part = length-take-le 24 (drop 1 bs) (omega (arith, l, length-drop 1 bs))
+
+    long : length pairs ≡ 24
+    long = length-zip xs writable ∙ ap (λ (n : ℕ). min n 32) long_part
+
+    pair : (n : ℕ) → n < 24 → get_or pairs n (0, 0) ≡ (get_or bs (1 + n) 0, get_or writable n 0)
+    pair n h =
+        get_or-zip xs writable n (0, 0) (omega (arith, h, long_part)) (omega (arith, h))
+        ∙ ap (λ (k : ℕ). (k, get_or writable n 0)) (get_or-take 24 (drop 1 bs) n 0 h ∙ get_or-drop 1 bs n 0)
+
+    so_far : (n : ℕ) → n ≤ 24 → fold step false (take n pairs) ≡ not (every (is_kept_at bs) n)
+    so_far zero h = refl
+    so_far (suc n) h =
+        let i : n < 24 = omega (arith, h) in
+        ap (λ (k : ℕ). fold step false (take k pairs)) (sym (add-one n))
+        ∙ fold_more step false pairs n (0, 0) (omega (arith, i, long))
+        ∙ more_bad (is_kept_at bs) n _ _ (so_far n (omega (arith, h))) (ap (λ (p : ℕ × ℕ). not (eqb (bit_and p.0 p.1) p.0)) (pair n i))
+        ∙ ap (λ (k : ℕ). not (every (is_kept_at bs) k)) (add-one n)
 
 -- an array of another length is no chip's
 pub state_short : (bs : List ℕ) → length bs ≢ 142 → false ≡ is_state bs

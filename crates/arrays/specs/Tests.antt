@@ -1,8 +1,9 @@
 -- The tests of a state array, as code makes them: each tells what is bad. Not the rule, which is the table's (`is_state`): TestLaws ties the two. That a
 -- byte is one, code need not test.
 -- Assumes nothing.
-use Rattle.std.specs.Prelude.{ℕ, ◌+◌, Bool, not, List, [], ◌∷◌, leb, eqb, get_or}
+use Rattle.std.specs.Prelude.{ℕ, ◌+◌, Bool, false, not, ◌||◌, List, [], ◌∷◌, leb, eqb, get_or, take, drop}
 use Rattle.std.specs.Int.Bits.{bit_and}
+use Rattle.std.specs.List.{fold, zip}
 use Rattle.base.specs.Words.{bit, every, any_of}
 use Rattle.record.specs.Numbers.{stage_of}
 use Rattle.record.specs.Part.{is_part, size_of, boots_of}
@@ -14,6 +15,10 @@ use Rattle.form.specs.State.{count_at}
 -- register j, below the time-stamps, has no bit outside its mask
 abbrev pub is_kept_at : List ℕ → ℕ → Bool
 is_kept_at bs j = eqb (bit_and (get_or bs (1 + j) 0) (get_or writable j 0)) (get_or bs (1 + j) 0)
+
+-- some register below the time-stamps has one, register by register
+abbrev pub outside : List ℕ → Bool
+outside bs = fold (λ (bad : Bool) (p : ℕ × ℕ). bad || not (eqb (bit_and p.0 p.1) p.0)) false (zip (take 24 (drop 1 bs)) writable)
 
 -- I1. What is bad in the array, place by place: part, registers and counts;
 abbrev pub clock_tests : List ℕ → List Bool

@@ -1,14 +1,12 @@
 #![tactic(auto)]
 
 // The arrays of a caller in another language: a state array judged, read and written; the numbers of an answer.
-ghost use Rattle.std.specs.Prelude.{◌≡◌, true, not, [], ◌∷◌, ◌++◌, ◌+◌, ◌%◌, ◌≤◌, length, take, drop};
-ghost use Rattle.text.specs.Buffer.{buffer, append};
-ghost use Rattle.base.specs.Words.{flag, every};
-ghost use Rattle.record.specs.Registers.{power_down_at};
+ghost use Rattle.std.specs.Prelude.{◌≡◌, true, not, [], ◌∷◌, ◌++◌, ◌+◌, ◌%◌, ◌≤◌, length, take, drop, IfOk};
+ghost use Rattle.refusals.specs.Refusal.{number_of};
 ghost use Rattle.form.specs.Chip.{device_of, tail_numbers};
-ghost use Rattle.form.specs.State.{count_of, head_bytes, event_bytes, array_numbers, is_state, state_of};
-ghost use Rattle.arrays.specs.Tests.{is_kept_at, clock_bad, frame_bad, events_bad};
-ghost use Rattle.arrays.specs.Arrays.{part_of, arrays_refusal, drives, driven_byte, answer_of};
+ghost use Rattle.form.specs.State.{count_at, count_bytes, counts_bytes, frame_bytes, event_bytes, array_numbers, is_state, state_of};
+ghost use Rattle.arrays.specs.Tests.{outside, clock_bad, frame_bad, events_bad};
+ghost use Rattle.arrays.specs.Arrays.{part_of, chip_in, chip_read, arrays_refusal, answer_of};
 
 use events::Events;
 use numbers::table;
@@ -16,7 +14,6 @@ use record::numbered::Numbered;
 use record::registers::POWER_DOWN;
 use record::{Counters, Cycle, Device, Frame, Guard, Load, Lock, Stage, Target, part, registers};
 use refusals::Refusal;
-use text::buffer;
 
 // Bytes of a state array, numbers of an answer.
 pub const STATE: usize = 142;
@@ -25,381 +22,296 @@ pub const ANSWER: usize = 6;
 
 const STAMPS: usize = POWER_DOWN.0 as usize;
 
-fn wide(b: u8) -> u64
-    ensures { result ≡ b }
+// N bytes from a place on.
+fn bytes_at<const N: usize>(state: &[u8; STATE], at: usize) -> [u8; N]
+    requires { at + N ≤ 142 }
+    ensures { result ≡ take N (drop at state.now) }
 {
-    b as u64
+    let mut bytes = [0u8; N];
+    bytes.copy_from_slice(&state[at..at + N]);
+    bytes
 }
 
-// A count of its three bytes.
-fn count_of(a: u8, b: u8, c: u8) -> u64
-    ensures { result ≡ count_of a b c }
+// A count, of its three bytes.
+fn count_at(state: &[u8; STATE], at: usize) -> u32
+    requires { at + 3 ≤ 142 }
+    ensures { result ≡ count_at state.now at }
 {
-    a as u64 + 256 * (b as u64) + 65536 * (c as u64)
+    u32::from_le_bytes([state[at], state[at + 1], state[at + 2], 0])
+}
+
+fn count_bytes(n: u32) -> [u8; 3]
+    ensures { result ≡ count_bytes n }
+{
+    let [a, b, c, _] = n.to_le_bytes();
+    [a, b, c]
 }
 
 // Some register has a bit outside its mask; a time-stamp may hold any. No early way out, so that the compiler takes several at a time.
-fn bits_outside(state: &[u8]) -> bool
-    requires { length state.now ≡ 142 }
-    ensures { result ≡ not (every (is_kept_at state.now) power_down_at) }
+fn bits_outside(state: &[u8; STATE]) -> bool
+    ensures { result ≡ outside state.now }
 {
-    let masks = registers::WRITABLE;
-    let mut bad = false;
-    let mut i: usize = 0;
-    while i < STAMPS {
-        let b = state[1 + i];
-        bad = bad | ((b & masks[i]) != b);
-        i += 1;
+    state[1..1 + STAMPS]
+        .iter()
+        .zip(registers::WRITABLE.iter())
+        .fold(false, |bad, (b, mask)| bad | ((*b & *mask) != *b))
+}
+
+// Part, registers and counts.
+#[tactic(auto, using(crate::proofs::TestLaws::outside_told), unfolding(crate::specs::Tests::clock_bad))]
+fn clock_bad(state: &[u8; STATE]) -> bool
+    ensures { result ≡ clock_bad state.now }
+{
+    let part = u64::from(state[0]);
+    let named = part::is_part(part);
+    let outside = bits_outside(state);
+    let startup = table::startup_limit(part, u64::from(state[2]));
+    let period = table::period(u64::from(state[11]));
+    !named
+        | outside
+        | (32768 <= count_at(state, 97))
+        | (startup <= u64::from(count_at(state, 100)))
+        | (period <= u64::from(count_at(state, 103)))
+        | (2097153 <= count_at(state, 106))
+        | (4097 <= count_at(state, 109))
+}
+
+// Power, latch and lock, the frame, its load, and the cycle.
+#[tactic(auto, unfolding(crate::specs::Tests::frame_bad))]
+fn frame_bad(state: &[u8; STATE]) -> bool
+    ensures { result ≡ frame_bad state.now }
+{
+    let power = u64::from(state[112]);
+    let kind = u64::from(state[117]);
+    let which = u64::from(state[118]);
+    let target = u64::from(state[130]);
+    let size = part::size(u64::from(state[0])) as u64;
+    let case = table::case_good(kind, which);
+    (2 <= power)
+        | (table::mark_limit(power) <= u64::from(state[113]))
+        | (2 <= state[114])
+        | (4 <= state[115])
+        | (3 <= state[116])
+        | (table::kind_limit(power) <= kind)
+        | !case
+        | (table::value_limit(size, kind, which) <= u64::from(state[119]))
+        | (8 <= state[129])
+        | (3 <= target)
+        | (table::target_limit(size, target) <= u64::from(state[131]))
+        | (table::left_limit(power, kind, which) <= u64::from(state[132]))
+}
+
+// The event inputs.
+#[tactic(auto, unfolding(crate::specs::Tests::events_bad))]
+fn events_bad(state: &[u8; STATE]) -> bool
+    ensures { result ≡ events_bad state.now }
+{
+    let control = u64::from(state[12]);
+    let door = u64::from(state[133]);
+    let edges = u64::from(state[135]);
+    (2 <= door)
+        | (2 <= state[134])
+        | (table::edges_limit(control) <= edges)
+        | (table::since_limit(edges) <= u64::from(count_at(state, 136)))
+        | (table::debounce_limit(control, door) <= u64::from(count_at(state, 139)))
+}
+
+// A state array that is a chip's.
+#[derive(Clone, Copy)]
+struct Held<'a> {
+    bytes: &'a [u8; STATE],
+    ghost is_state: { is_state bytes.now ≡ true },
+}
+
+impl Held<'_> {
+    fn counters(&self) -> Counters
+        ensures { result ≡ (device_of (array_numbers self.now.bytes.now)).counters }
+    {
+        let state = self.bytes;
+        Counters {
+            divider: count_at(state, 97) as u16,
+            startup: count_at(state, 100) as u8,
+            watchdog: count_at(state, 103),
+            delay: count_at(state, 106),
+            pulse: count_at(state, 109) as u16,
+        }
     }
-    bad
+
+    fn events(&self) -> Events
+        ensures { result ≡ (device_of (array_numbers self.now.bytes.now)).events }
+    {
+        let state = self.bytes;
+        Events {
+            door: state[133],
+            drum: state[134],
+            edges: state[135],
+            since: count_at(state, 136) as u16,
+            debounce: count_at(state, 139) as u16,
+        }
+    }
+
+    fn device(&self) -> Device
+        ensures { result ≡ device_of (array_numbers self.now.bytes.now) }
+    {
+        let state = self.bytes;
+        Device {
+            regs: bytes_at(state, 1),
+            sram: bytes_at(state, 33),
+            counters: self.counters(),
+            power: state[112] == 1,
+            mark: state[113] == 1,
+            guard: Guard {
+                wel: state[114] == 1,
+                protection: record::number::protection_of(state[115]),
+                lock: Lock::from(state[116]),
+            },
+            frame: Frame {
+                stage: Stage::from(Numbered {
+                    kind: state[117],
+                    which: state[118],
+                    value: state[119],
+                }),
+            },
+            load: Load {
+                offsets: state[120],
+                bytes: bytes_at(state, 121),
+                next: state[129],
+            },
+            cycle: Cycle {
+                target: Target::from((state[130], state[131])),
+                left: state[132],
+            },
+            events: self.events(),
+        }
+    }
+}
+
+// A part's number and a record.
+#[derive(Clone, Copy)]
+pub struct Chip {
+    pub part: u8,
+    pub device: Device,
+}
+
+// The chip of a state array that is one's: the table of the saved form has its numbers for part and record.
+impl TryFrom<&[u8]> for Chip {
+    type Error = Refusal;
+
+    ghost try_from_gives = { λ state r. (r ≡ chip_read state.now) × IfOk r (λ chip. state_of chip.part chip.device ≡ state.now) };
+
+    fn try_from(state: &[u8]) -> Result<Chip, Refusal> {
+        let Ok(bytes) = <&[u8; STATE]>::try_from(state) else {
+            return Err(Refusal::Range);
+        };
+        if clock_bad(bytes) | frame_bad(bytes) | events_bad(bytes) {
+            return Err(Refusal::Range);
+        }
+        let held = Held { bytes };
+        Ok(Chip {
+            part: bytes[0],
+            device: held.device(),
+        })
+    }
+}
+
+// The counts between SRAM and what follows.
+fn counts_bytes(c: Counters) -> [u8; 15]
+    ensures { result ≡ counts_bytes c }
+{
+    let counts = [
+        count_bytes(u32::from(c.divider)),
+        count_bytes(u32::from(c.startup)),
+        count_bytes(c.watchdog),
+        count_bytes(c.delay),
+        count_bytes(u32::from(c.pulse)),
+    ];
+    let mut bytes = [0u8; 15];
+    bytes.copy_from_slice(counts.as_flattened());
+    bytes
+}
+
+fn frame_bytes(d: Device) -> [u8; 9]
+    ensures { result ≡ frame_bytes d }
+{
+    let stage = Numbered::from(d.frame.stage);
+    [
+        u8::from(d.power),
+        u8::from(d.mark),
+        u8::from(d.guard.wel),
+        record::number::protection_number(d.guard.protection),
+        u8::from(d.guard.lock),
+        stage.kind,
+        stage.which,
+        stage.value,
+        d.load.offsets,
+    ]
+}
+
+fn cycle_bytes(load: Load, cycle: Cycle) -> [u8; 4]
+    ensures { result ≡ tail_numbers load cycle }
+{
+    let (kind, value) = cycle.target.into();
+    [load.next, kind, value, cycle.left]
+}
+
+fn event_bytes(e: Events) -> [u8; 9]
+    ensures { result ≡ event_bytes e }
+{
+    let [a, b, c] = count_bytes(u32::from(e.since));
+    let [p, q, r] = count_bytes(u32::from(e.debounce));
+    [e.door, e.drum, e.edges, a, b, c, p, q, r]
+}
+
+// Bytes put at a place; those before it stay.
+fn put_at(bytes: &[u8], into: &mut [u8; STATE], at: usize)
+    requires { at + length bytes.now ≤ 142 }
+    ensures { take (at + length bytes.now) into.new ≡ take at into.old ++ bytes.now }
+{
+    into[at..at + bytes.len()].copy_from_slice(bytes);
+}
+
+impl From<Chip> for [u8; STATE] {
+    ghost from_gives = { λ chip state. state ≡ state_of chip.part chip.device };
+
+    fn from(chip: Chip) -> [u8; STATE] {
+        let d = chip.device;
+        let mut state = [0u8; STATE];
+        state[0] = chip.part;
+        put_at(&d.regs, &mut state, 1);
+        put_at(&d.sram, &mut state, 33);
+        put_at(&counts_bytes(d.counters), &mut state, 97);
+        put_at(&frame_bytes(d), &mut state, 112);
+        put_at(&d.load.bytes, &mut state, 121);
+        put_at(&cycle_bytes(d.load, d.cycle), &mut state, 129);
+        put_at(&event_bytes(d.events), &mut state, 133);
+        state
+    }
 }
 
 // The first byte, 0 where there is none.
 pub fn part_of(state: &[u8]) -> u8
     ensures { result ≡ part_of state.now }
 {
-    if state.len() == 0 {
-        return 0;
-    }
-    state[0]
+    state.first().copied().unwrap_or(0)
 }
 
-// Part, registers and counts of an array of its length.
-fn clock_bad(state: &[u8]) -> bool
-    requires { length state.now ≡ 142 }
-    ensures { result ≡ clock_bad state.now }
+// What is wrong with the part, with a memory's length, or that no record in range is there.
+pub fn refusal(part: u64, eeprom: usize, id: usize, there: bool) -> Result<(), Refusal>
+    ensures { number_of result ≡ arrays_refusal part eeprom id there }
 {
-    let part = wide(state[0]);
-    let named = part::is_part(part);
-    let outside = bits_outside(state);
-    let startup = table::startup_limit(part, wide(state[2]));
-    let period = table::period(wide(state[11]));
-    !named
-        | outside
-        | (32768 <= count_of(state[97], state[98], state[99]))
-        | (startup <= count_of(state[100], state[101], state[102]))
-        | (period <= count_of(state[103], state[104], state[105]))
-        | (2097153 <= count_of(state[106], state[107], state[108]))
-        | (4097 <= count_of(state[109], state[110], state[111]))
+    refusals::memory_refusal(part, eeprom, id)?;
+    if there { Ok(()) } else { Err(Refusal::Range) }
 }
 
-// Power, latch and lock, the frame, its load, and the cycle.
-fn frame_bad(state: &[u8]) -> bool
-    requires { length state.now ≡ 142 }
-    ensures { result ≡ frame_bad state.now }
+// The chip of the arrays of a caller.
+pub fn chip_of(state: &[u8], eeprom: usize, id: usize) -> Result<Chip, Refusal>
+    ensures refused { number_of result ≡ arrays_refusal (part_of state.now) eeprom id (is_state state.now) }
+    ensures chip { IfOk result (λ chip. chip ≡ chip_in state.now) }
+    ensures again { IfOk result (λ chip. state_of chip.part chip.device ≡ state.now) }
 {
-    let power = wide(state[112]);
-    let kind = wide(state[117]);
-    let which = wide(state[118]);
-    let target = wide(state[130]);
-    let size = part::size(wide(state[0])) as u64;
-    let case = table::case_good(kind, which);
-    (2 <= power)
-        | (table::mark_limit(power) <= wide(state[113]))
-        | (2 <= state[114])
-        | (4 <= state[115])
-        | (3 <= state[116])
-        | (table::kind_limit(power) <= kind)
-        | !case
-        | (table::value_limit(size, kind, which) <= wide(state[119]))
-        | (8 <= state[129])
-        | (3 <= target)
-        | (table::target_limit(size, target) <= wide(state[131]))
-        | (table::left_limit(power, kind, which) <= wide(state[132]))
-}
-
-// The event inputs.
-fn events_bad(state: &[u8]) -> bool
-    requires { length state.now ≡ 142 }
-    ensures { result ≡ events_bad state.now }
-{
-    let control = wide(state[12]);
-    let door = wide(state[133]);
-    let edges = wide(state[135]);
-    (2 <= door)
-        | (2 <= state[134])
-        | (table::edges_limit(control) <= edges)
-        | (table::since_limit(edges) <= count_of(state[136], state[137], state[138]))
-        | (table::debounce_limit(control, door) <= count_of(state[139], state[140], state[141]))
-}
-
-// The table of the saved form has the array's numbers for part and record.
-pub fn is_state(state: &[u8]) -> bool
-    ensures { result ≡ is_state state.now }
-{
-    if state.len() != STATE {
-        return false;
-    }
-    !(clock_bad(state) | frame_bad(state) | events_bad(state))
-}
-
-// Bytes from a place on, as many as there is room for.
-fn copy_from(state: &[u8], at: usize, into: &mut [u8])
-    requires { at + length into.old ≤ length state.now }
-    ensures { into.new ≡ take (length into.old) (drop at state.now) }
-{
-    let mut i: usize = 0;
-    while i < into.len() {
-        into[i] = state[at + i];
-        i += 1;
-    }
-}
-
-// Registers, SRAM and the bytes of a load, of an array of its length.
-fn registers_in(state: &[u8]) -> [u8; 32]
-    requires { length state.now ≡ 142 }
-    ensures { result ≡ take 32 (drop 1 state.now) }
-{
-    let mut regs = [0u8; 32];
-    copy_from(state, 1, &mut regs);
-    regs
-}
-
-fn sram_in(state: &[u8]) -> [u8; 64]
-    requires { length state.now ≡ 142 }
-    ensures { result ≡ take 64 (drop 33 state.now) }
-{
-    let mut sram = [0u8; 64];
-    copy_from(state, 33, &mut sram);
-    sram
-}
-
-fn load_in(state: &[u8]) -> [u8; 8]
-    requires { length state.now ≡ 142 }
-    ensures { result ≡ take 8 (drop 121 state.now) }
-{
-    let mut load = [0u8; 8];
-    copy_from(state, 121, &mut load);
-    load
-}
-
-fn counters_in(state: &[u8]) -> Counters
-    requires state_len { length state.now ≡ 142 }
-    requires state_value { is_state state.now ≡ true }
-    ensures { result ≡ (device_of (array_numbers state.now)).counters }
-{
-    Counters {
-        divider: count_of(state[97], state[98], state[99]) as u16,
-        startup: count_of(state[100], state[101], state[102]) as u8,
-        watchdog: count_of(state[103], state[104], state[105]) as u32,
-        delay: count_of(state[106], state[107], state[108]) as u32,
-        pulse: count_of(state[109], state[110], state[111]) as u16,
-    }
-}
-
-fn events_in(state: &[u8]) -> Events
-    requires state_len { length state.now ≡ 142 }
-    requires state_value { is_state state.now ≡ true }
-    ensures { result ≡ (device_of (array_numbers state.now)).events }
-{
-    Events {
-        door: state[133],
-        drum: state[134],
-        edges: state[135],
-        since: count_of(state[136], state[137], state[138]) as u16,
-        debounce: count_of(state[139], state[140], state[141]) as u16,
-    }
-}
-
-// The record of an array that is a chip's.
-pub fn device_in(state: &[u8]) -> Device
-    requires state_len { length state.now ≡ 142 }
-    requires state_value { is_state state.now ≡ true }
-    ensures { result ≡ device_of (array_numbers state.now) }
-{
-    let regs = registers_in(state);
-    let sram = sram_in(state);
-    let counters = counters_in(state);
-    let protection = record::number::protection_of(state[115]);
-    let lock = Lock::from(state[116]);
-    let stage = Stage::from(Numbered {
-        kind: state[117],
-        which: state[118],
-        value: state[119],
-    });
-    let bytes = load_in(state);
-    let target = Target::from((state[130], state[131]));
-    let events = events_in(state);
-    Device {
-        regs,
-        sram,
-        counters,
-        power: state[112] == 1,
-        mark: state[113] == 1,
-        guard: Guard {
-            wel: state[114] == 1,
-            protection,
-            lock,
-        },
-        frame: Frame { stage },
-        load: Load {
-            offsets: state[120],
-            bytes,
-            next: state[129],
-        },
-        cycle: Cycle {
-            target,
-            left: state[132],
-        },
-        events,
-    }
-}
-
-// A count's bytes.
-fn least(n: u32) -> u8
-    ensures { result ≡ n % 256 }
-{
-    (n % 256) as u8
-}
-
-fn flag_of(b: bool) -> u8
-    ensures { result ≡ flag b }
-{
-    if b { 1 } else { 0 }
-}
-
-// What stands between SRAM and load, and behind the load.
-fn head_bytes(d: Device) -> [u8; 24]
-    ensures { result ≡ head_bytes d }
-{
-    let c = d.counters;
-    let guard = d.guard;
-    let protection = guard.protection;
-    let lock = guard.lock;
-    let stage = Numbered::from(d.frame.stage);
-    let load = d.load;
-    let divider = c.divider as u32;
-    let startup = c.startup as u32;
-    let watchdog = c.watchdog;
-    let delay = c.delay;
-    let pulse = c.pulse as u32;
-    [
-        least(divider),
-        least(divider / 256),
-        least(divider / 65536),
-        least(startup),
-        least(startup / 256),
-        least(startup / 65536),
-        least(watchdog),
-        least(watchdog / 256),
-        least(watchdog / 65536),
-        least(delay),
-        least(delay / 256),
-        least(delay / 65536),
-        least(pulse),
-        least(pulse / 256),
-        least(pulse / 65536),
-        flag_of(d.power),
-        flag_of(d.mark),
-        flag_of(guard.wel),
-        record::number::protection_number(protection),
-        u8::from(lock),
-        stage.kind,
-        stage.which,
-        stage.value,
-        load.offsets,
-    ]
-}
-
-fn tail_bytes(load: Load, cycle: Cycle, e: Events) -> [u8; 13]
-    ensures { result ≡ tail_numbers load cycle ++ event_bytes e }
-{
-    let (kind, value) = cycle.target.into();
-    let since = e.since as u32;
-    let debounce = e.debounce as u32;
-    [
-        load.next,
-        kind,
-        value,
-        cycle.left,
-        e.door,
-        e.drum,
-        e.edges,
-        least(since),
-        least(since / 256),
-        least(since / 65536),
-        least(debounce),
-        least(debounce / 256),
-        least(debounce / 65536),
-    ]
-}
-
-fn put_front(part: u8, regs: [u8; 32], sram: [u8; 64], into: &mut [u8]) -> usize
-    requires { 0 + length (((part ∷ []) ++ regs) ++ sram) ≤ length into.old }
-    ensures { buffer into.new result ≡ append (buffer into.old 0) (((part ∷ []) ++ regs) ++ sram) }
-{
-    let a = buffer::put_one(part, into, 0);
-    let b = buffer::put(&regs, into, a);
-    buffer::put(&sram, into, b)
-}
-
-fn put_back(head: [u8; 24], load: [u8; 8], tail: [u8; 13], into: &mut [u8], at: usize) -> usize
-    requires { at + length ((head ++ load) ++ tail) ≤ length into.old }
-    ensures { buffer into.new result ≡ append (buffer into.old at) ((head ++ load) ++ tail) }
-{
-    let a = buffer::put(&head, into, at);
-    let b = buffer::put(&load, into, a);
-    buffer::put(&tail, into, b)
-}
-
-// The array of a record.
-pub fn put_state(part: u8, d: Device, into: &mut [u8])
-    requires { length into.old ≡ 142 }
-    ensures { into.new ≡ state_of part d }
-{
-    let regs = d.regs;
-    let sram = d.sram;
-    let load = d.load;
-    let cycle = d.cycle;
-    let events = d.events;
-    let bytes = load.bytes;
-    let head = head_bytes(d);
-    let tail = tail_bytes(load, cycle, events);
-    let at = put_front(part, regs, sram, into);
-    put_back(head, bytes, tail, into, at);
-}
-
-// 3 for the part, 4 for a memory's length, 6 where no record in range is there; else 0.
-pub fn refusal(part: u64, eeprom: usize, id: usize, there: bool) -> u8
-    ensures { result ≡ arrays_refusal part eeprom id there }
-{
-    match refusals::memory_refusal(part, eeprom, id) {
-        Err(refusal) => u8::from(refusal),
-        Ok(()) => if there { 0 } else { u8::from(Refusal::Range) },
-    }
-}
-
-// The same of the arrays of a caller.
-pub fn state_refusal(state: &[u8], eeprom: usize, id: usize) -> u8
-    ensures { result ≡ arrays_refusal (part_of state.now) eeprom id (is_state state.now) }
-{
-    let part = part_of(state);
-    let there = is_state(state);
-    refusal(part as u64, eeprom, id, there)
-}
-
-fn level(low: bool) -> u64
-    ensures { result ≡ flag (not low) }
-{
-    if low { 0 } else { 1 }
-}
-
-fn driven(reply: Option<u8>) -> u64
-    ensures { result ≡ flag (drives reply) }
-{
-    match reply {
-        Some(_) => 1,
-        None => 0,
-    }
-}
-
-fn byte(reply: Option<u8>) -> u64
-    ensures { result ≡ driven_byte reply }
-{
-    match reply {
-        Some(b) => b as u64,
-        None => 0,
-    }
+    let chip = Chip::try_from(state);
+    refusal(u64::from(part_of(state)), eeprom, id, chip.is_ok())?;
+    chip
 }
 
 // An answer with the levels of a record.
@@ -407,11 +319,11 @@ pub fn put_answer(number: u8, reply: Option<u8>, count: u64, d: Device, into: &m
     ensures { into.new ≡ answer_of number reply count d }
 {
     *into = [
-        number as u64,
-        driven(reply),
-        byte(reply),
+        u64::from(number),
+        u64::from(reply.is_some()),
+        u64::from(reply.unwrap_or(0)),
         count,
-        level(ticks::lines::irq_low(d)),
-        level(ticks::lines::wdo_low(d)),
+        u64::from(!ticks::lines::irq_low(d)),
+        u64::from(!ticks::lines::wdo_low(d)),
     ];
 }

@@ -17,7 +17,7 @@ use Rattle.std.specs.Prelude.{None}
 use Rattle.record.specs.Fresh.{fresh}
 use Rattle.record.specs.Numbers.{act_count, act_of}
 use Rattle.record.specs.Part.{is_part, size_of, id_size}
-use Rattle.record.specs.World.{World, Bytes, world}
+use Rattle.record.specs.World.{World, world}
 use Rattle.refusals.specs.Range.{out_of_range}
 use Rattle.refusals.specs.Refusal.{wrong_length, first_refusal, setup_refusal}
 use Rattle.refusals.proofs.RangeLaws.{out_of_range_lem}
@@ -29,7 +29,7 @@ use Rattle.form.specs.Save.{Saving, saves, Loading, load_answer, loads}
 use Rattle.form.specs.State.{array_numbers, state_bytes, is_state, state_of}
 use Rattle.form.proofs.ChipLaws.{recorded_sound}
 use Rattle.form.proofs.SavedLaws.{saved_right}
-use Rattle.form.proofs.StateLaws.{low_at, array_again}
+use Rattle.form.proofs.StateLaws.{low_at}
 use Rattle.acts.specs.Act.{Outcome, performed}
 use Rattle.arrays.specs.Arrays.{Arrays, arrays, arrays_of, part_of, arrays_refusal, state_refusal, answer_of, no_chip}
 use Rattle.calls.specs.Calls.{Called, called, world_in, fresh_in, new_refusal, newly, told, no_act, acts, Wrote, wrote, wrote_of, saves_state, loaded_of, loads_state}
@@ -82,12 +82,11 @@ module _ (part k : ℕ) (a : Arrays) (e : k ≡ new_refusal part a) where
     new_long = eqb-true _ _ (is_there part (length a.eeprom) (length a.id) k (eqb (length a.state) 142) e z)
 
     pub new_done :
-        (state ee id : List ℕ) (d : Device) → state ≡ state_of (part % 256) d → d ≡ fresh → ee ≡ replicate (length a.eeprom) 255
+        (state ee id : List ℕ) (d : Device) → state ≡ state_of part d → d ≡ fresh → ee ≡ replicate (length a.eeprom) 255
         → id ≡ replicate (length a.id) 255 → called 0 [] (arrays state ee id) ≡ newly part a
     unfolding newly
     new_done state ee id d s f p q =
-        let b = part_byte part (named part (length a.eeprom) (length a.id) k (eqb (length a.state) 142) e z) in
-        (λ i. called 0 [] (arrays ((s ∙ (λ j. state_of (b j) (f j))) i) (p i) (q i)))
+        (λ i. called 0 [] (arrays ((s ∙ ap (state_of part) f) i) (p i) (q i)))
         ∙ yes (called 0 [] (fresh_in part a)) (called (new_refusal part a) [] a) (eq-eqb (new_refusal part a) 0 (sym e ∙ z))
 
 -- What arrays say that are not refused.
@@ -115,10 +114,6 @@ module _ (bs : List ℕ) (ee id k : ℕ) (e : k ≡ arrays_refusal (part_of bs) 
 
   pub setup_there : (part : ℕ) (d : Device) → part ≡ part_of bs → d ≡ device_of (array_numbers bs) → setup_refusal part d ee id ≡ 0
   setup_there part d p f = (λ i. setup_refusal (p i) (f i) ee id) ∙ setup_passes (part_of bs) (device_of (array_numbers bs)) ee id suited_there
-
-  -- the array of the record that stands in it, of bytes, is itself
-  pub state_again : Bytes bs → (part : ℕ) (d : Device) → part ≡ part_of bs → d ≡ device_of (array_numbers bs) → bs ≡ state_of part d
-  state_again b part d p f = sym (array_again bs state_long b state_there) ∙ sym ((λ i. state_of (p i) (f i)) ∙ ap (λ (n : ℕ). state_of n (device_of (array_numbers bs))) part_there)
 
 -- An act, and a save.
 module _ (a : Arrays) (k : ℕ) (e : k ≡ arrays_refusal (part_of a.state) (length a.eeprom) (length a.id) (is_state a.state)) where
@@ -148,13 +143,12 @@ module _ (a : Arrays) (k : ℕ) (e : k ≡ arrays_refusal (part_of a.state) (len
           (answer : List ℕ) (d : Device) → 7 < act → answer ≡ answer_of 3 None 0 d → d ≡ (world_in a).device → called 3 answer a ≡ acts a act arg
       act_none answer d h p q = (λ i. called 3 ((p ∙ ap (answer_of 3 None 0) q) i) a) ∙ no done (no_act a) (le-ltb act act_count (omega (arith, h))) ∙ judged
 
-      pub act_done :
-          (part : ℕ) (state answer : List ℕ) (d : Device) (code : Act) (r : Outcome) → part ≡ part_of a.state → act ≤ 7 → code ≡ act_of act
+      pub act_told :
+          (part : ℕ) (state answer : List ℕ) (d : Device) (code : Act) (o : Outcome) → part ≡ part_of a.state → act ≤ 7 → code ≡ act_of act
           → d ≡ (world_in a).device
-          → r ≡ performed part code arg (world d a.eeprom a.id) → state ≡ state_of part r.after.device
-          → answer ≡ answer_of r.number r.reply r.count r.after.device
-          → called r.number answer (arrays state r.after.eeprom r.after.id) ≡ acts a act arg
-      act_done part state answer d code r pe h c q o s p =
+          → o ≡ performed part code arg (world d a.eeprom a.id) → state ≡ state_of part o.after.device
+          → answer ≡ answer_of o.number o.reply o.count o.after.device → called o.number answer (arrays state o.after.eeprom o.after.id) ≡ acts a act arg
+      act_told part state answer d code r pe h c q o s p =
           (λ i. called r.number (p i) (arrays (s i) r.after.eeprom r.after.id))
           ∙ ap (told part) (o ∙ (λ i. performed part (c i) arg (world (q i) a.eeprom a.id)))
           ∙ ap (λ (n : ℕ). told n (performed n (act_of act) arg (world_in a))) pe

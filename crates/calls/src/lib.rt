@@ -5,7 +5,7 @@ ghost use Rattle.std.specs.Prelude.{◌≡◌};
 ghost use Rattle.arrays.specs.Arrays.{arrays};
 ghost use Rattle.calls.specs.Calls.{called, acts};
 
-const ANSWER: usize = arrays::ANSWER;
+use arrays::{ANSWER, Chip, STATE};
 
 // One act by its number, with its argument. The answer: the refusal number, whether SO drives, what it drives, the count, both levels.
 pub fn mcp795_act(
@@ -18,28 +18,31 @@ pub fn mcp795_act(
 ) -> u64
     ensures { called result answer.new (arrays state.new eeprom.new id.new) ≡ acts (arrays state.old eeprom.old id.old) act number }
 {
-    let refused = arrays::state_refusal(state, eeprom.len(), id.len());
-    if refused != 0 {
-        *answer = [refused as u64, 0, 0, 0, 1, 1];
-        return refused as u64;
-    }
-    let part = arrays::part_of(state);
-    let device = arrays::device_in(state);
+    let chip = match arrays::chip_of(state, eeprom.len(), id.len()) {
+        Ok(chip) => chip,
+        Err(refusal) => {
+            let refused = u64::from(u8::from(refusal));
+            *answer = [refused, 0, 0, 0, 1, 1];
+            return refused;
+        }
+    };
+    let part = chip.part;
     if 7 < act {
-        arrays::put_answer(3, None, 0, device, answer);
+        arrays::put_answer(3, None, 0, chip.device, answer);
         return 3;
     }
     let code = record::number::act_of(act as u8);
-    match acts::perform_in_range(part as u64, code, number, device, eeprom, id) {
-        Ok(a) => {
-            arrays::put_state(part, a.device, state);
-            arrays::put_answer(0, a.reply, a.count, a.device, answer);
+    match acts::perform_in_range(u64::from(part), code, number, chip.device, eeprom, id) {
+        Ok(done) => {
+            let device = done.device;
+            state.copy_from_slice(&<[u8; STATE]>::from(Chip { part, device }));
+            arrays::put_answer(0, done.reply, done.count, device, answer);
             0
         }
         Err(refusal) => {
             let refused = u8::from(refusal);
-            arrays::put_answer(refused, None, 0, device, answer);
-            refused as u64
+            arrays::put_answer(refused, None, 0, chip.device, answer);
+            u64::from(refused)
         }
     }
 }

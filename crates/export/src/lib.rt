@@ -5,21 +5,23 @@ ghost use Rattle.std.specs.Prelude.{◌≡◌, []};
 ghost use Rattle.arrays.specs.Arrays.{arrays};
 ghost use Rattle.calls.specs.Calls.{called, newly, wrote, saves_state, loads_state};
 
-const STATE: usize = arrays::STATE;
+use arrays::{Chip, STATE};
+use refusals::Refusal;
 
 // A fresh chip of a part. Refused by 3 for a part that is none, by 4 for a memory of another length, by 6 for a state array of another length; then nothing
 // changes.
 pub fn mcp795_new(part: u64, state: &mut [u8], eeprom: &mut [u8], id: &mut [u8]) -> u64
     ensures { called result [] (arrays state.new eeprom.new id.new) ≡ newly part (arrays state.old eeprom.old id.old) }
 {
-    let refused = arrays::refusal(part, eeprom.len(), id.len(), state.len() == STATE);
-    if refused != 0 {
-        return refused as u64;
+    if let Err(refusal) = arrays::refusal(part, eeprom.len(), id.len(), state.len() == STATE) {
+        return u64::from(u8::from(refusal));
     }
     acts::page::erase(eeprom);
     acts::page::erase(id);
-    let fresh = record::fresh_device();
-    arrays::put_state((part % 256) as u8, fresh, state);
+    state.copy_from_slice(&<[u8; STATE]>::from(Chip {
+        part: part as u8,
+        device: record::fresh_device(),
+    }));
     0
 }
 
@@ -33,14 +35,14 @@ pub fn mcp795_save(
 ) -> u64
     ensures { wrote result length.new text.new ≡ saves_state (arrays state.now eeprom.now id.now) text.old }
 {
-    let refused = arrays::state_refusal(state, eeprom.len(), id.len());
-    if refused != 0 {
-        *length = [0];
-        return refused as u64;
-    }
-    let part = arrays::part_of(state);
-    let device = arrays::device_in(state);
-    let s = saved::save(part as u64, device, eeprom, id, text);
+    let chip = match arrays::chip_of(state, eeprom.len(), id.len()) {
+        Ok(chip) => chip,
+        Err(refusal) => {
+            *length = [0];
+            return u64::from(u8::from(refusal));
+        }
+    };
+    let s = saved::save(u64::from(chip.part), chip.device, eeprom, id, text);
     *length = [s.length as u64];
     s.number as u64
 }
@@ -57,7 +59,7 @@ pub fn mcp795_load(
 {
     if state.len() != STATE {
         *line = [0];
-        return 6;
+        return u64::from(u8::from(Refusal::Range));
     }
     let fresh = record::fresh_device();
     let l = saved::load(text, 0, fresh, eeprom, id);
@@ -65,7 +67,9 @@ pub fn mcp795_load(
     if l.number != 0 {
         return l.number as u64;
     }
-    let device = l.device;
-    arrays::put_state((l.part % 256) as u8, device, state);
+    state.copy_from_slice(&<[u8; STATE]>::from(Chip {
+        part: (l.part % 256) as u8,
+        device: l.device,
+    }));
     0
 }

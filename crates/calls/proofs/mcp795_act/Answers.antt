@@ -1,62 +1,48 @@
 -- `calls::mcp795_act`: by the case that it is in.
 -- Assumes nothing.
-use Prim.Native.Nat.{ℕ}
-use native.Mathlib.Omega.{arith}
-use mathlib.Core.Path.{ap, ◌∙◌}
-use lib.ListN.{length}
-use Rattle.std.proofs.Common.{rules}
-use Rattle.record.specs.World.{Bytes, world}
+use Rattle.std.proofs.Common.{rules, ◌≡◌, refl, sym, ap, ◌∙◌, arith, length, ℕ}
+use Rattle.refusals.proofs.NumberLaws.{refusal_not_zero}
+use Rattle.record.specs.World.{world}
 use Rattle.acts.specs.Act.{outcome_done, refused}
-use Rattle.arrays.specs.Arrays.{arrays}
-use Rattle.calls.proofs.CallLaws.{state_again, state_long, state_there, setup_there, act_refused, act_none, act_done}
+use Rattle.arrays.specs.Arrays.{arrays, no_chip}
+use Rattle.calls.specs.Calls.{called}
+use Rattle.calls.proofs.CallLaws.{state_long, setup_there, act_refused, act_none, act_told}
+use Rattle.form.specs.State.{state_of}
 use Rattle.calls.proofs.mcp795_act.Goals as goal
-
-pub returns-then-refused-ne0 : goal.returns-then-refused-ne0
-returns-then-refused-ne0 c =
-    let a = c.args in
-    act_refused (arrays a.state.now a.eeprom.now a.id.now) _ c.state_refusal-refused.ensures a.act a.number c.if-refused-ne0.true
-
-pub device_in-device-requires : goal.device_in-device-requires
-device_in-device-requires c =
-    let a = c.args in
-    let ee = length a.eeprom.now in
-    let id = length a.id.now in
-    record {
-      state_len = state_long a.state.now ee id _ c.state_refusal-refused.ensures c.if-refused-ne0.false;
-      state_value = state_there a.state.now ee id _ c.state_refusal-refused.ensures c.if-refused-ne0.false;
-    }
-
-pub returns-then-act-gt7 : goal.returns-then-act-gt7
-returns-then-act-gt7 c =
-    let a = c.args in
-    act_none (arrays a.state.now a.eeprom.now a.id.now) _ c.state_refusal-refused.ensures a.act a.number c.if-refused-ne0.false _ _ (omega arith) c.put_answer.ensures c.device_in-device.ensures
-
-pub perform_in_range-requires : goal.perform_in_range-requires
-perform_in_range-requires c =
-    let a = c.args in
-    setup_there a.state.now (length a.eeprom.now) (length a.id.now) _ c.state_refusal-refused.ensures c.if-refused-ne0.false _ _ c.part_of-part.ensures c.device_in-device.ensures
-
-pub put_state-requires : goal.put_state-requires
-put_state-requires c =
-    let a = c.args in
-    state_long a.state.now (length a.eeprom.now) (length a.id.now) _ c.state_refusal-refused.ensures c.if-refused-ne0.false
-
-pub returns-in-Ok : goal.returns-in-Ok
-returns-in-Ok c =
-    let a = c.args in
-    let p = c.perform_in_range in
-    act_done (arrays a.state.now a.eeprom.now a.id.now) _ c.state_refusal-refused.ensures a.act a.number c.if-refused-ne0.false _ _ _ _ _ (outcome_done c.in-Ok.a p.new.eeprom p.new.id)
-    c.part_of-part.ensures c.if-act-gt7.false c.act_of-code.ensures c.device_in-device.ensures c.in-Ok.ensures c.put_state.ensures c.put_answer-in-Ok.ensures
 
 pub returns-in-Err : goal.returns-in-Err
 returns-in-Err c =
     let a = c.args in
-    let p = c.perform_in_range in
-    let n = c.from-refused.result in
-    let d = c.device_in-device.result in
-    let b : Bytes a.state.now = search rules in
-    act_done (arrays a.state.now a.eeprom.now a.id.now) _ c.state_refusal-refused.ensures a.act a.number c.if-refused-ne0.false _ _ _ _ _ (refused n (world d p.new.eeprom p.new.id))
-    c.part_of-part.ensures c.if-act-gt7.false c.act_of-code.ensures c.device_in-device.ensures
-    (ap (λ (m : ℕ). refused m (world d p.new.eeprom p.new.id)) c.from-refused.ensures ∙ c.in-Err.ensures)
-    (state_again a.state.now (length a.eeprom.now) (length a.id.now) _ c.state_refusal-refused.ensures c.if-refused-ne0.false b _ _ c.part_of-part.ensures c.device_in-device.ensures)
-    c.put_answer-in-Err.ensures
+    let its = arrays a.state.now a.eeprom.now a.id.now in
+    ap (λ (k : ℕ). called k (no_chip k) its) (c.from-refused.ensures ∙ c.from.ensures)
+    ∙ act_refused its _ c.in-Err.ensures.refused a.act a.number (refusal_not_zero c.in-Err.refusal)
+
+pub returns-then-act-gt7 : goal.returns-then-act-gt7
+returns-then-act-gt7 c =
+    let a = c.args in
+    act_none (arrays a.state.now a.eeprom.now a.id.now) 0 c.in-Ok.ensures.refused a.act a.number refl _ _ (omega arith) c.put_answer.ensures (ap (λ x. x.device) c.in-Ok.ensures.chip)
+
+pub perform_in_range-requires : goal.perform_in_range-requires
+perform_in_range-requires c =
+    let a = c.args in
+    setup_there a.state.now (length a.eeprom.now) (length a.id.now) 0 c.in-Ok.ensures.refused refl _ _ (c.from-2.ensures ∙ ap (λ x. x.part) c.in-Ok.ensures.chip) (ap (λ x. x.device) c.in-Ok.ensures.chip)
+
+pub copy_from_slice-requires : goal.copy_from_slice-requires
+copy_from_slice-requires c =
+    let a = c.args in
+    let l : length c.from-in-Ok-perform_in_range.result ≡ 142 = search rules in
+    state_long a.state.now (length a.eeprom.now) (length a.id.now) 0 c.in-Ok.ensures.refused refl ∙ sym l
+
+pub returns-in-Ok-perform_in_range : goal.returns-in-Ok-perform_in_range
+returns-in-Ok-perform_in_range c =
+    let a = c.args in
+    let o = outcome_done c.in-Ok-perform_in_range.done c.perform_in_range.new.eeprom c.perform_in_range.new.id in
+    act_told (arrays a.state.now a.eeprom.now a.id.now) 0 c.in-Ok.ensures.refused a.act a.number refl _ _ _ _ _ o (c.from-2.ensures ∙ ap (λ x. x.part) c.in-Ok.ensures.chip) c.if-act-gt7.false c.act_of-code.ensures (ap (λ x. x.device) c.in-Ok.ensures.chip) c.in-Ok-perform_in_range.ensures (c.copy_from_slice.ensures.after ∙ c.from-in-Ok-perform_in_range.ensures ∙ ap (λ (n : ℕ). state_of n o.after.device) (sym c.from-2.ensures)) c.put_answer-in-Ok-perform_in_range.ensures
+
+pub returns-in-Err-perform_in_range : goal.returns-in-Err-perform_in_range
+returns-in-Err-perform_in_range c =
+    let a = c.args in
+    let k = c.from-refused-in-Err-perform_in_range.result in
+    let w = world c.in-Ok.chip.device c.perform_in_range.new.eeprom c.perform_in_range.new.id in
+    ap (λ (n : ℕ). called n c.put_answer-in-Err-perform_in_range.new.into (arrays a.state.now w.eeprom w.id)) c.from-in-Err-perform_in_range.ensures
+    ∙ act_told (arrays a.state.now a.eeprom.now a.id.now) 0 c.in-Ok.ensures.refused a.act a.number refl _ _ _ _ _ (refused k w) (c.from-2.ensures ∙ ap (λ x. x.part) c.in-Ok.ensures.chip) c.if-act-gt7.false c.act_of-code.ensures (ap (λ x. x.device) c.in-Ok.ensures.chip) (ap (λ (n : ℕ). refused n w) c.from-refused-in-Err-perform_in_range.ensures ∙ c.in-Err-perform_in_range.ensures) (sym c.in-Ok.ensures.again ∙ ap (λ (n : ℕ). state_of n c.in-Ok.chip.device) (sym c.from-2.ensures)) c.put_answer-in-Err-perform_in_range.ensures

@@ -1,20 +1,20 @@
 -- `export::mcp795_new`: by the case that it is in.
 -- Assumes nothing.
+use Rattle.std.proofs.Common.{◌≢◌, refl, sym, ap, ◌∙◌, ℕ, []}
+use Rattle.refusals.proofs.NumberLaws.{refusal_not_zero}
 use Rattle.arrays.specs.Arrays.{arrays}
-use Rattle.calls.proofs.CallLaws.{new_refused, new_long, new_done}
+use Rattle.calls.specs.Calls.{called}
+use Rattle.calls.proofs.CallLaws.{new_refused, new_done}
 use Rattle.export.proofs.mcp795_new.Goals as goal
 
-pub returns-then-refused-ne0 : goal.returns-then-refused-ne0
-returns-then-refused-ne0 c =
+pub returns-in-Err : goal.returns-in-Err
+returns-in-Err c =
     let a = c.args in
-    new_refused a.part _ (arrays a.state.now a.eeprom.now a.id.now) c.refusal-refused.ensures c.if-refused-ne0.true
-
-pub put_state-requires : goal.put_state-requires
-put_state-requires c =
-    let a = c.args in
-    new_long a.part _ (arrays a.state.now a.eeprom.now a.id.now) c.refusal-refused.ensures c.if-refused-ne0.false
+    let its = arrays a.state.now a.eeprom.now a.id.now in
+    ap (λ (k : ℕ). called k [] its) (c.from-in-Err.ensures ∙ c.from.ensures)
+    ∙ new_refused a.part _ its c.in-Err.ensures (refusal_not_zero c.in-Err.refusal)
 
 pub returns : goal.returns
 returns c =
     let a = c.args in
-    new_done a.part _ (arrays a.state.now a.eeprom.now a.id.now) c.refusal-refused.ensures c.if-refused-ne0.false _ _ _ _ c.put_state.ensures c.fresh_device-fresh.ensures c.erase.ensures c.erase-2.ensures
+    new_done a.part 0 (arrays a.state.now a.eeprom.now a.id.now) c.in_default.ensures refl _ _ _ _ (c.copy_from_slice.ensures.after ∙ c.from-2.ensures) c.fresh_device.ensures c.erase.ensures c.erase-2.ensures

@@ -1,27 +1,20 @@
 -- `export::mcp795_save`: by the case that it is in.
 -- Assumes nothing.
-use lib.ListN.{length}
+use Rattle.std.proofs.Common.{◌≡◌, refl, ap, ◌∙◌, ℕ, ◌∷◌, []}
+use Rattle.refusals.proofs.NumberLaws.{refusal_not_zero}
 use Rattle.arrays.specs.Arrays.{arrays}
+use Rattle.calls.specs.Calls.{wrote}
 use Rattle.saved.specs.Answer.{saving_of}
-use Rattle.calls.proofs.CallLaws.{state_long, state_there, save_refused, save_done}
+use Rattle.calls.proofs.CallLaws.{save_refused, save_done}
 use Rattle.export.proofs.mcp795_save.Goals as goal
 
-pub returns-then-refused-ne0 : goal.returns-then-refused-ne0
-returns-then-refused-ne0 c =
+pub returns-in-Err : goal.returns-in-Err
+returns-in-Err c =
     let a = c.args in
-    save_refused (arrays a.state.now a.eeprom.now a.id.now) _ c.state_refusal-refused.ensures a.text.now c.if-refused-ne0.true
-
-pub device_in-device-requires : goal.device_in-device-requires
-device_in-device-requires c =
-    let a = c.args in
-    let ee = length a.eeprom.now in
-    let id = length a.id.now in
-    record {
-      state_len = state_long a.state.now ee id _ c.state_refusal-refused.ensures c.if-refused-ne0.false;
-      state_value = state_there a.state.now ee id _ c.state_refusal-refused.ensures c.if-refused-ne0.false;
-    }
+    ap (λ (k : ℕ). wrote k (0 ∷ []) a.text.now) (c.from-in-Err.ensures ∙ c.from.ensures)
+    ∙ save_refused (arrays a.state.now a.eeprom.now a.id.now) _ c.in-Err.ensures.refused a.text.now (refusal_not_zero c.in-Err.refusal)
 
 pub returns : goal.returns
 returns c =
     let a = c.args in
-    save_done (arrays a.state.now a.eeprom.now a.id.now) _ c.state_refusal-refused.ensures a.text.now c.if-refused-ne0.false (saving_of c.save-s.result c.save-s.new.into) _ _ c.part_of-part.ensures c.device_in-device.ensures c.save-s.ensures
+    save_done (arrays a.state.now a.eeprom.now a.id.now) 0 c.in-Ok.ensures.refused a.text.now refl (saving_of c.save-s.result c.save-s.new.into) _ _ (c.from-2.ensures ∙ ap (λ x. x.part) c.in-Ok.ensures.chip) (ap (λ x. x.device) c.in-Ok.ensures.chip) c.save-s.ensures

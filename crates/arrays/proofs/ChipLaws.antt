@@ -1,0 +1,58 @@
+-- The chip of a state array: by the array's length, else by the tests of code.
+-- Assumes nothing.
+use mathlib.Core.Path.{◌≡◌, refl, sym, ap, ◌∙◌}
+use mathlib.Core.Logic.{◌≢◌}
+use mathlib.Core.Bool.{Bool, true, false, not, ◌||◌}
+use mathlib.Core.List.{List}
+use Prim.Native.Nat.{ℕ}
+use native.Mathlib.Omega.{arith}
+use lib.ListN.{length, get_or}
+use Rattle.std.specs.Prelude.{Result, Ok, Err}
+use Rattle.base.proofs.Tests.{yes, no}
+use Rattle.record.specs.declared.Device.{Device}
+use Rattle.record.specs.World.{Bytes}
+use Rattle.refusals.specs.declared.Refusal.{Refusal}
+use Rattle.refusals.specs.declared.Refusal.TheVariants.{Range}
+use Rattle.form.specs.Chip.{device_of}
+use Rattle.form.specs.State.{array_numbers, is_state, state_of}
+use Rattle.form.proofs.StateLaws.{low_at, array_again}
+use Rattle.arrays.specs.declared.Chip.{Chip}
+use Rattle.arrays.specs.Arrays.{chip_in, chip_read}
+use Rattle.arrays.specs.Tests.{clock_bad, frame_bad, events_bad}
+use Rattle.arrays.proofs.ArrayLaws.{state_long}
+use Rattle.arrays.proofs.TestLaws.{state_told, state_short}
+
+-- none, or one
+none_in : (bs : List ℕ) → is_state bs ≡ false → Err Range ≡ chip_read bs
+none_in bs e = no (Ok (chip_in bs)) (Err Range) e
+
+-- Code's tests, made of the same bytes, tell whether they are a chip's.
+module _ (bs ys : List ℕ) {a b e : Bool} (p : ys ≡ bs) (l : length bs ≡ 142) (w : Bytes bs) (t : a ≡ clock_bad ys) (u : b ≡ frame_bad ys) (v : e ≡ events_bad ys) where
+  judged : not (a || b || e) ≡ is_state bs
+  judged = (λ i. not ((t ∙ ap clock_bad p) i || (u ∙ ap frame_bad p) i || (v ∙ ap events_bad p) i)) ∙ state_told bs l w
+
+  pub good : (a || b || e) ≡ false → is_state ys ≡ true
+  good f = ap is_state p ∙ sym judged ∙ ap not f
+
+  pub bad : (a || b || e) ≡ true → Err Range ≡ chip_read bs
+  bad f = none_in bs (sym judged ∙ ap not f)
+
+pub short : (bs : List ℕ) → length bs ≢ 142 → Err Range ≡ chip_read bs
+short bs n = none_in bs (sym (state_short bs n))
+
+pub some_in :
+    (bs ys : List ℕ) {d : Device} → ys ≡ bs → is_state ys ≡ true → d ≡ device_of (array_numbers ys)
+    → ◌≡◌ {A = Result Chip Refusal} (Ok (record { part = get_or ys 0 0; device = d })) (chip_read bs)
+some_in bs ys p t e =
+    (λ i. Ok (record { part = get_or (p i) 0 0; device = (e ∙ ap (λ (x : List ℕ). device_of (array_numbers x)) p) i }))
+    ∙ yes (Ok (chip_in bs)) (Err Range) (ap is_state (sym p) ∙ t)
+
+-- whose array is the same again
+pub again_in :
+    (bs ys : List ℕ) {d : Device} → ys ≡ bs → Bytes bs → is_state ys ≡ true → d ≡ device_of (array_numbers ys) → state_of (get_or ys 0 0) d ≡ bs
+again_in bs ys p w t e =
+    let u : is_state bs ≡ true = ap is_state (sym p) ∙ t in
+    let l = state_long bs u in
+    (λ i. state_of (get_or (p i) 0 0) ((e ∙ ap (λ (x : List ℕ). device_of (array_numbers x)) p) i))
+    ∙ ap (λ (n : ℕ). state_of n (device_of (array_numbers bs))) (sym (low_at bs l 0 (omega arith)))
+    ∙ array_again bs l w u
