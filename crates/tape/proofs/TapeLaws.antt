@@ -12,7 +12,7 @@ use borrow.Author.Tests.{lt-ltb, le-ltb, le-leb, leb-true, leb-false, ltb-true, 
 use lib.Dec.{leb, ltb, eqb}
 use Rattle.std.proofs.Common.{Some, None, cond}
 use Rattle.std.specs.Prelude.{Result}
-use Rattle.std.specs.List.{prefix_len, position}
+use Rattle.std.specs.List.{position}
 use lib.ListN.{length, take, drop, get_or, length-append, length-take, length-drop, drop_of_length-le, take-append-drop}
 use lib.Seq.{take_all, drop-cons, take-append-le, take-append-add, take-take, length-take-le, append_snoc, sets-eq}
 use Rattle.base.specs.Words.{pick, over}
@@ -21,7 +21,7 @@ use Rattle.base.proofs.Tests.{by_cases, yes, no, both_left, both_right, both_tru
 use Rattle.record.specs.Part.{id_size}
 use Rattle.text.specs.Bytes.{leading, newline, plain}
 use Rattle.text.specs.Buffer.{Buffer, buffer, append, room_in}
-use Rattle.text.proofs.BytesLaws.{leading_first, leading_rest, leading_taken, leading_ends, leading_within}
+use Rattle.text.proofs.BytesLaws.{leading_prefix, leading_first, leading_rest, leading_taken, leading_ends, leading_within}
 use Rattle.text.proofs.BufferLaws.{append_none, append_join, room_append}
 use Rattle.lines.specs.declared.Fault.{Fault}
 use Rattle.lines.specs.declared.Request.{Request}
@@ -221,15 +221,6 @@ module _
         ∙ (λ i. later (length chunk - length (sym d i)) (taken_from (state (sym e i) []) (sym d i) (sym q' i)))
 
 -- The search for a newline finds the place behind the first bytes that end no line; or there is none.
-grown : (t : Bool) {m n : ℕ} → m ≡ n → pick t (suc m) 0 ≡ cond t (1 + n) 0
-grown true e = omega arith
-grown false e = refl
-
-leading_prefix : (kind : ℕ → Bool) (s : List ℕ) → leading kind s ≡ prefix_len kind s
-unfolding leading
-leading_prefix kind [] = refl
-leading_prefix kind (x ∷ s) = grown (kind x) (leading_prefix kind s)
-
 placed : (t : Bool) {m n l : ℕ} → ltb m l ≡ t → Some n ≡ cond t (Some m) None → (n ≡ m) × (n < l)
 placed true {m = m} {n = n} {l = l} h e = let q : n ≡ m = cc in (q, omega (arith, ltb-true m l h))
 placed false h e = absurd (cc)
