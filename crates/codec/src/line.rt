@@ -1,8 +1,6 @@
 // A line of a tape, without its newline: its pieces, and what it asks for.
 ghost use Rattle.std.specs.Prelude.{◌≡◌, ◌≤◌, length};
-ghost use Rattle.base.specs.Words.{pick};
-ghost use Rattle.text.specs.Bytes.{is_word};
-ghost use Rattle.lines.specs.Line.{line_limit, name_size, name_text, after_name, digits_text, in_form, form_reach, name_of, bad_digits, number_column};
+ghost use Rattle.lines.specs.Line.{line_limit, name_text, after_name, digits_text, in_form, form_reach, name_of, bad_digits, number_column};
 ghost use Rattle.lines.specs.Request.{asked, request_of};
 
 use lines::{Fault, Name, Request};
@@ -15,94 +13,101 @@ pub const LINE_LIMIT: usize = 64;
 // T2. The most digits of its number.
 const DIGIT_LIMIT: usize = 8;
 
-// How many letters the name has.
-fn name_size(line: &[u8]) -> usize
-    ensures { result ≡ name_size line.now }
-{
-    bytes::leading_of(Kind::Letter, bytes::rest(line, 3))
+// A line that is not too long, cut once: the letters after `op=`, what follows them, and of that the digits after ` arg=` (T5, G9).
+#[derive(Clone, Copy)]
+struct Pieces<'a> {
+    line: &'a [u8],
+    name: &'a [u8],
+    after: &'a [u8],
+    digits: &'a [u8],
+    ghost short: { length line.now ≤ line_limit },
+    ghost name_cut: { name.now ≡ name_text line.now },
+    ghost after_cut: { after.now ≡ after_name line.now },
+    ghost digits_cut: { digits.now ≡ digits_text line.now },
 }
 
-// What follows asks for that length, so that it is counted once.
-fn name_text(line: &[u8], size: usize) -> &[u8]
-    requires { size ≡ name_size line.now }
-    ensures { result.now ≡ name_text line.now }
-{
-    bytes::first(bytes::rest(line, 3), size)
-}
-
-fn after_name(line: &[u8], size: usize) -> &[u8]
-    requires { size ≡ name_size line.now }
-    ensures { result.now ≡ after_name line.now }
-{
-    bytes::rest(bytes::rest(line, 3), size)
-}
-
-// T5, G9. The text of the number, a part of the line that is lent.
-fn digits(line: &[u8], size: usize) -> &[u8]
-    requires { size ≡ name_size line.now }
-    ensures { result.now ≡ digits_text line.now }
-{
-    bytes::rest(after_name(line, size), 5)
-}
-
-fn in_form(line: &[u8], size: usize) -> bool
-    requires { size ≡ name_size line.now }
-    ensures { result ≡ in_form line.now }
-{
-    let op = bytes::agreement(b"op=", line);
-    let arg = bytes::agreement(b" arg=", after_name(line, size));
-    let text = digits(line, size);
-    let run = bytes::leading_of(Kind::Digit, text);
-    (op == 3) & (0 < size) & (arg == 5) & (0 < text.len()) & (run == text.len())
-}
-
-// T13. How far a line goes along with the form.
-fn form_reach(line: &[u8], size: usize) -> usize
-    requires line_len_bound { length line.now ≤ line_limit }
-    requires size_value { size ≡ name_size line.now }
-    ensures { result ≡ form_reach line.now }
-{
-    let op = bytes::agreement(b"op=", line);
-    if op != 3 {
-        return op;
+impl<'a> Pieces<'a> {
+    fn cut(line: &'a [u8]) -> Pieces<'a>
+        requires { length line.now ≤ line_limit }
+        ensures { result.line.now ≡ line.now }
+    {
+        let after_op = bytes::rest(line, 3);
+        let size = bytes::leading_of(Kind::Letter, after_op);
+        let name = bytes::first(after_op, size);
+        let after = bytes::rest(after_op, size);
+        let digits = bytes::rest(after, 5);
+        Pieces {
+            line,
+            name,
+            after,
+            digits,
+        }
     }
-    if size == 0 {
-        return 3;
+
+    fn in_form(&self) -> bool
+        ensures { result ≡ in_form self.now.line.now }
+    {
+        let op = bytes::agreement(b"op=", self.line);
+        let arg = bytes::agreement(b" arg=", self.after);
+        let run = bytes::leading_of(Kind::Digit, self.digits);
+        (op == 3)
+            & (0 < self.name.len())
+            & (arg == 5)
+            & (0 < self.digits.len())
+            & (run == self.digits.len())
     }
-    let arg = bytes::agreement(b" arg=", after_name(line, size));
-    if arg != 5 {
-        return 3 + (size + arg);
+
+    // T13. How far a line goes along with the form.
+    fn form_reach(&self) -> usize
+        ensures { result ≡ form_reach self.now.line.now }
+    {
+        let op = bytes::agreement(b"op=", self.line);
+        if op != 3 {
+            return op;
+        }
+        let size = self.name.len();
+        if size == 0 {
+            return 3;
+        }
+        let arg = bytes::agreement(b" arg=", self.after);
+        if arg != 5 {
+            return 3 + (size + arg);
+        }
+        3 + (size + (5 + bytes::leading_of(Kind::Digit, self.digits)))
     }
-    3 + (size + (5 + bytes::leading_of(Kind::Digit, digits(line, size))))
+
+    // T15. The column of the first digit where it is a needless zero, else of the first too many.
+    fn number_column(&self) -> usize
+        ensures { result ≡ number_column self.now.line.now }
+    {
+        let first = 3 + self.name.len() + 5 + 1;
+        if decimal::needless_zero(self.digits) {
+            return first;
+        }
+        first + DIGIT_LIMIT
+    }
 }
 
-// The name where s is its word, else the other.
-fn choose(word: &[u8], s: &[u8], name: Name, other: Option<Name>) -> Option<Name>
-    ensures { result ≡ pick (is_word word.now s.now) (Some name) other }
-{
-    if bytes::is_word(word, s) {
-        return Some(name);
-    }
-    other
-}
-
-// T4. The name that a text is, chosen from the last word to the first.
+// T4. The name that a text is.
+#[tactic(auto, unfolding(lines::specs::Line::name_of, text::specs::Bytes::found, text::specs::Bytes::agreed))]
 fn name_of(s: &[u8]) -> Option<Name>
     ensures { result ≡ name_of s.now }
 {
-    let mut name = None;
-    name = choose(b"evhs", s, Name::Act(Act::Set(Pin::Evhs)), name);
-    name = choose(b"evls", s, Name::Act(Act::Set(Pin::Evls)), name);
-    name = choose(b"up", s, Name::Act(Act::Up), name);
-    name = choose(b"cut", s, Name::Act(Act::Cut), name);
-    name = choose(b"wait", s, Name::Act(Act::Wait), name);
-    name = choose(b"end", s, Name::Act(Act::End), name);
-    name = choose(b"byte", s, Name::Act(Act::Byte), name);
-    name = choose(b"select", s, Name::Act(Act::Select), name);
-    choose(b"part", s, Name::Part, name)
+    match s {
+        b"part" => Some(Name::Part),
+        b"select" => Some(Name::Act(Act::Select)),
+        b"byte" => Some(Name::Act(Act::Byte)),
+        b"end" => Some(Name::Act(Act::End)),
+        b"wait" => Some(Name::Act(Act::Wait)),
+        b"cut" => Some(Name::Act(Act::Cut)),
+        b"up" => Some(Name::Act(Act::Up)),
+        b"evls" => Some(Name::Act(Act::Set(Pin::Evls))),
+        b"evhs" => Some(Name::Act(Act::Set(Pin::Evhs))),
+        _ => None,
+    }
 }
 
-fn asked_for(name: Name, arg: u64) -> Request
+fn asked(name: Name, arg: u64) -> Request
     ensures { result ≡ asked name arg }
 {
     match name {
@@ -118,19 +123,6 @@ fn bad_digits(s: &[u8]) -> bool
     decimal::needless_zero(s) | (DIGIT_LIMIT < s.len())
 }
 
-// T15. The column of the first digit where it is a needless zero, else of the first too many.
-fn number_column(line: &[u8], size: usize) -> usize
-    requires line_len_bound { length line.now ≤ line_limit }
-    requires size_value { size ≡ name_size line.now }
-    ensures { result ≡ number_column line.now }
-{
-    let first = 3 + size + 5 + 1;
-    if decimal::needless_zero(digits(line, size)) {
-        return first;
-    }
-    first + DIGIT_LIMIT
-}
-
 // T16. What a line asks for: the first of its faults, else what its name and its number are.
 pub fn request(line: &[u8]) -> Result<Request, Fault>
     ensures { result ≡ request_of line.now }
@@ -138,17 +130,13 @@ pub fn request(line: &[u8]) -> Result<Request, Fault>
     if LINE_LIMIT < line.len() {
         return Err(Fault::TooLong);
     }
-    let size = name_size(line);
-    let formed = in_form(line, size);
-    if !formed {
-        return Err(Fault::NotInForm((form_reach(line, size) + 1) as u64));
+    let pieces = Pieces::cut(line);
+    if !pieces.in_form() {
+        return Err(Fault::NotInForm(pieces.form_reach() as u64 + 1));
     }
-    let Some(name) = name_of(name_text(line, size)) else {
-        return Err(Fault::UnknownName);
-    };
-    let text = digits(line, size);
-    if bad_digits(text) {
-        return Err(Fault::BadDigits(number_column(line, size) as u64));
+    let name = name_of(pieces.name).ok_or(Fault::UnknownName)?;
+    if bad_digits(pieces.digits) {
+        return Err(Fault::BadDigits(pieces.number_column() as u64));
     }
-    Ok(asked_for(name, decimal::value_of(text)))
+    Ok(asked(name, decimal::value_of(pieces.digits)))
 }

@@ -13,41 +13,20 @@ pub const ANSWER_ROOM: usize = 64;
 fn shows_count(act: Act) -> bool
     ensures { result ≡ shows_count act }
 {
-    match act {
-        Act::Select => false,
-        Act::Byte => false,
-        Act::End => false,
-        Act::Wait => true,
-        Act::Cut => true,
-        Act::Up => false,
-        Act::Set(_) => false,
-    }
+    matches!(act, Act::Wait | Act::Cut)
 }
 
 // T8, G2. What the answer to an act shows: none where it is refused, its count, or its reply.
 pub fn out_of(number: u8, act: Act, reply: Option<u8>, count: u64) -> Option<u64>
     ensures { result ≡ out_of number act reply count }
 {
-    let done = number == 0;
-    if !done {
+    if number != 0 {
         return None;
     }
     if shows_count(act) {
         return Some(count);
     }
-    let Some(b) = reply else {
-        return None;
-    };
-    Some(b as u64)
-}
-
-fn level(high: bool) -> Option<u64>
-    ensures { result ≡ level_out high }
-{
-    if high {
-        return Some(1);
-    }
-    Some(0)
+    reply.map(u64::from)
 }
 
 // Puts a word and what it shows.
@@ -57,10 +36,10 @@ fn put_field(word: &[u8], out: Option<u64>, into: &mut [u8], at: usize) -> usize
         × (result ≤ at + length word.now + out_room) }
 {
     let a = buffer::put(word, into, at);
-    let Some(n) = out else {
-        return buffer::put_one(b'z', into, a);
-    };
-    decimal::put_decimal(n, into, a)
+    match out {
+        Some(n) => decimal::put_decimal(n, into, a),
+        None => buffer::put_one(b'z', into, a),
+    }
 }
 
 // T8. Puts an answer's line at a place, and answers the place after it. The levels are high or not.
@@ -75,9 +54,9 @@ pub fn put_answer(
     requires { at + answer_room ≤ length into.old }
     ensures { buffer into.new result ≡ append (buffer into.old at) (answer_line number out irq wdo) }
 {
-    let a = put_field(b"no=", Some(number as u64), into, at);
+    let a = put_field(b"no=", Some(u64::from(number)), into, at);
     let b = put_field(b" out=", out, into, a);
-    let c = put_field(b" irq=", level(irq), into, b);
-    let d = put_field(b" wdo=", level(wdo), into, c);
+    let c = put_field(b" irq=", Some(u64::from(irq)), into, b);
+    let d = put_field(b" wdo=", Some(u64::from(wdo)), into, c);
     buffer::put_one(b'\n', into, d)
 }

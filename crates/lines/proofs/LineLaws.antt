@@ -113,11 +113,15 @@ form_pieces line f =
     (sym (take-append-drop (name_size line) (after_op line))
     ∙ ap (λ (s : List ℕ). name_text line ++ s) (agreed_with arg_text (after_name line) f.arg))
 
+pub name_length : (line : List ℕ) → length (name_text line) ≡ name_size line
+unfolding name_size
+name_length line = length-take-le (name_size line) (after_op line) (leading_within letter (after_op line))
+
 -- a line is of the form exactly where the test says so, and its pieces are the line's own
 form_formed : (line : List ℕ) → InForm line → Formed line
 form_formed line f =
     let n = name_size line in
-    let k : length (name_text line) ≡ n = length-take-le n (after_op line) (unfold name_size in leading_within letter (after_op line)) in
+    let k : length (name_text line) ≡ n = name_length line in
     record {
       name = name_text line;
       number = digits_text line;

@@ -14,10 +14,10 @@ use Rattle.codec.proofs.print.put_field.Goals as goal
 pub put_one-requires : goal.put_one-requires
 put_one-requires c = omega (arith, put_place (buffer c.args.into.now c.args.at) c.args.word.now c.put-a.ensures)
 
-pub returns-in_default : goal.returns-in_default
-returns-in_default c =
+pub returns-in-None : goal.returns-in-None
+returns-in-None c =
     let a = c.args in
-    field_put (buffer a.into.now a.at) a.word.now a.out None c.in_default.is (omega arith)
+    field_put (buffer a.into.now a.at) a.word.now a.out None c.in-None.is (omega arith)
     c.put-a.ensures c.put_one.ensures
 
 pub put_decimal-requires : goal.put_decimal-requires
@@ -26,8 +26,8 @@ put_decimal-requires c =
     let f : Fits w64 n = search rules in
     omega (arith, put_place (buffer c.args.into.now c.args.at) c.args.word.now c.put-a.ensures, decimal_places 19 n (omega arith))
 
-pub returns : goal.returns
-returns c =
+pub returns-in-Some : goal.returns-in-Some
+returns-in-Some c =
     let a = c.args in
     let n = c.in-Some.n in
     let f : Fits w64 n = search rules in
