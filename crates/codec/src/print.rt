@@ -1,7 +1,7 @@
 // An answer's line: `no=`, `out=`, `irq=` and `wdo=`, each with what it shows.
 ghost use Rattle.std.specs.Prelude.{◌≡◌, ◌++◌, ◌+◌, ◌≤◌, length};
 ghost use Rattle.text.specs.Buffer.{buffer, append};
-ghost use Rattle.lines.specs.Print.{shows_count, out_of, out_text, level_out, answer_line, out_room, answer_room};
+ghost use Rattle.lines.specs.Print.{shows_count, out_of, out_text, answer_line, out_room, answer_room};
 
 use record::Act;
 use text::{buffer, decimal};

@@ -1,4 +1,4 @@
-// Elements put into a lent buffer: bytes, or numbers. Each function answers the place after what it put.
+// Elements put into a lent buffer: bytes, or numbers. Each function answers the place after what it put. Buffer and place stay two parameters (D230).
 ghost use Rattle.std.specs.Prelude.{◌≡◌, [], ◌∷◌, ◌+◌, ◌-◌, ◌≤◌, length};
 ghost use Rattle.text.specs.Buffer.{buffer, append};
 
