@@ -12,7 +12,7 @@ use events::Events;
 use numbers::table;
 use record::numbered::Numbered;
 use record::registers::POWER_DOWN;
-use record::{Counters, Cycle, Device, Frame, Guard, Load, Lock, Stage, Target, part, registers};
+use record::{Counters, Cycle, Device, Frame, Guard, Load, Lock, Protection, Stage, Target, part, registers};
 use refusals::Refusal;
 
 // Bytes of a state array, numbers of an answer.
@@ -162,7 +162,7 @@ impl Held<'_> {
             mark: state[113] == 1,
             guard: Guard {
                 wel: state[114] == 1,
-                protection: record::number::protection_of(state[115]),
+                protection: Protection::from(state[115]),
                 lock: Lock::from(state[116]),
             },
             frame: Frame {
@@ -238,7 +238,7 @@ fn frame_bytes(d: Device) -> [u8; 9]
         u8::from(d.power),
         u8::from(d.mark),
         u8::from(d.guard.wel),
-        record::number::protection_number(d.guard.protection),
+        u8::from(d.guard.protection),
         u8::from(d.guard.lock),
         stage.kind,
         stage.which,

@@ -1,6 +1,6 @@
 -- How the lock of the ID bytes moves at the end of a frame with k leftover bits (bench).
 -- Assumes nothing.
-use Rattle.std.specs.Prelude.{ℕ, Bool, ◌||◌, eqb}
+use Rattle.std.specs.Prelude.{ℕ, Bool, ◌||◌, eqb, Option, Some, None}
 use Rattle.base.specs.Words.{pick}
 use Rattle.record.specs.declared.Lock.{Lock}
 use Rattle.record.specs.declared.Lock.TheVariants.{Closed, First, Open}
@@ -19,26 +19,27 @@ second_step Closed = Closed
 second_step First = Open
 second_step Open = Closed
 
--- The byte of an UNLOCK of exactly two; of any other frame 256, which no byte is.
-abbrev pub pair_byte : Pair → ℕ
-pair_byte (StatusData v) = 256
-pair_byte (UnlockData v) = v
-pair_byte ClearWatchdog = 256
-pair_byte ClearRam = 256
+-- The byte of an UNLOCK of exactly two; any other frame has none.
+abbrev pub pair_byte : Pair → Option ℕ
+pair_byte (StatusData v) = None
+pair_byte (UnlockData v) = Some v
+pair_byte ClearWatchdog = None
+pair_byte ClearRam = None
 
-abbrev pub unlock_byte : Stage → ℕ
-unlock_byte Idle = 256
-unlock_byte Opened = 256
-unlock_byte Unheard = 256
-unlock_byte (Instruction c) = 256
-unlock_byte (Reading p) = 256
-unlock_byte (Writing p) = 256
+abbrev pub unlock_byte : Stage → Option ℕ
+unlock_byte Idle = None
+unlock_byte Opened = None
+unlock_byte Unheard = None
+unlock_byte (Instruction c) = None
+unlock_byte (Reading p) = None
+unlock_byte (Writing p) = None
 unlock_byte (Second q) = pair_byte q
-unlock_byte (Over l) = 256
+unlock_byte (Over l) = None
 
 -- F33, F34, F35. UNLOCK with no bit left over: 55h is the first step, whatever came before, AAh the second; anything else closes.
-abbrev pub unlocked : ℕ → ℕ → Lock → Lock
-unlocked k v l = pick (eqb k 0) (pick (eqb v 0x55) First (pick (eqb v 0xaa) (second_step l) Closed)) Closed
+abbrev pub unlocked : ℕ → Option ℕ → Lock → Lock
+unlocked k None l = Closed
+unlocked k (Some v) l = pick (eqb k 0) (pick (eqb v 0x55) First (pick (eqb v 0xaa) (second_step l) Closed)) Closed
 
 -- F36. The codes that leave the lock as it is.
 abbrev pub leaves_lock : Code → Bool

@@ -2,67 +2,55 @@
 ghost use Rattle.std.specs.Prelude.{◌≡◌};
 ghost use Rattle.ends.specs.End.{clears, sram_after, count_after, after_end};
 
-use record::{Code, Device, EepromAddress, Frame, Guard, Stage, stages};
+use crate::lock::lock_after;
+use crate::write::{cycle_after, wel_after};
+use record::{Code, Counters, Device, EepromAddress, Frame, Guard, Stage};
 
-// A code that clears does so.
+// A code that clears does so (F20). `latched_by` is another rule (F19): it asks that no second byte came.
 fn cleared_by(code: Code, k: u8, stage: Stage) -> bool
     ensures { result ≡ clears code k stage }
 {
-    let c = stages::code_at(stage);
-    let over = stages::is_over(stage);
-    (c.is(code) & !over) & (k == 0)
+    ((stage.code() == code) & !stage.is_over()) & (k == 0)
 }
 
 fn sram_after(k: u8, d: Device) -> [u8; 64]
     ensures { result ≡ sram_after k d }
 {
-    let frame = d.frame;
-    let stage = frame.stage;
-    let clear = cleared_by(Code::Clrram, k, stage);
-    if clear {
-        return [0u8; 64];
+    if cleared_by(Code::Clrram, k, d.frame.stage) {
+        [0u8; 64]
+    } else {
+        d.sram
     }
-    d.sram
 }
 
 fn count_after(k: u8, d: Device) -> u32
     ensures { result ≡ count_after k d }
 {
-    let frame = d.frame;
-    let stage = frame.stage;
-    let clear = cleared_by(Code::Clrwdt, k, stage);
-    if clear {
-        return 0;
+    if cleared_by(Code::Clrwdt, k, d.frame.stage) {
+        0
+    } else {
+        d.counters.watchdog
     }
-    d.counters.watchdog
 }
 
 // The device after an end with k leftover bits.
 pub fn after_end(top: EepromAddress, k: u8, d: Device) -> Device
     ensures { result ≡ after_end top.0 k d }
 {
-    let before = d.frame;
-    let stage = before.stage;
-    let g = d.guard;
-    let old_wel = g.wel;
-    let old_lock = g.lock;
-    let protection = g.protection;
-    let sram = sram_after(k, d);
-    let count = count_after(k, d);
-    let wel = crate::write::wel_after(k, old_wel, stage);
-    let lock = crate::lock::lock_after(k, old_lock, stage);
-    let cycle = crate::write::cycle_after(top, k, d);
-    let guard = Guard {
-        wel,
-        protection,
-        lock,
-    };
-    let frame = Frame { stage: Stage::Idle };
-    let mut next = d;
-    next.sram = sram;
-    next.counters.watchdog = count;
-    next.guard = guard;
-    next.frame = frame;
-    next.cycle = cycle;
-    next
+    let stage = d.frame.stage;
+    Device {
+        sram: sram_after(k, d),
+        counters: Counters {
+            watchdog: count_after(k, d),
+            ..d.counters
+        },
+        guard: Guard {
+            wel: wel_after(k, d.guard.wel, stage),
+            lock: lock_after(k, d.guard.lock, stage),
+            ..d.guard
+        },
+        frame: Frame { stage: Stage::Idle },
+        cycle: cycle_after(top, k, d),
+        ..d
+    }
 }

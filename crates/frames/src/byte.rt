@@ -1,25 +1,20 @@
 // Select, and a byte of a frame: where it takes the frame, and what it does.
 ghost use Rattle.std.specs.Prelude.{◌≡◌};
-ghost use Rattle.base.specs.Words.{pick};
-ghost use Rattle.record.specs.Codes.{writes_page};
-ghost use Rattle.frames.specs.Frame.{first_stage, second_stage, read_on, written_on, third_byte, stage_after, emptied, loaded_with, writing_load, load_after, written_place, written_at, after_byte, after_select};
+ghost use Rattle.frames.specs.Frame.{first_stage, second_stage, read_on, written_on, third_byte, stage_after, emptied, loaded_with, load_after, written_at, after_byte, after_select};
 
 use record::{
     ClockAddress, Code, Device, EepromAddress, Frame, IdAddress, Load, Long, Pair, Place, Stage,
 };
 
-// The bit of each offset in a set of offsets.
-const OFFSETS: [u8; 8] = [1, 2, 4, 8, 16, 32, 64, 128];
-
 // The instruction byte.
 fn first_stage(busy: bool, code: Code) -> Stage
     ensures { result ≡ first_stage busy code }
 {
-    let heard = code.heard_under_wip();
-    if busy & !heard {
-        return Stage::Unheard;
+    if busy & !code.heard_under_wip() {
+        Stage::Unheard
+    } else {
+        Stage::Instruction(code)
     }
-    Stage::Instruction(code)
 }
 
 // The second byte of a heard frame.
@@ -60,9 +55,8 @@ fn written_on(place: Place) -> Place
     ensures { result ≡ written_on place }
 {
     match place {
-        Place::EepromAt(a) => Place::EepromAt(a),
         Place::ClockAt(a) => Place::ClockAt(a.next()),
-        Place::IdAt(a) => Place::IdAt(a),
+        Place::EepromAt(_) | Place::IdAt(_) => place,
     }
 }
 
@@ -82,14 +76,12 @@ fn stage_after(top: EepromAddress, busy: bool, v: u8, stage: Stage) -> Stage
     ensures { result ≡ stage_after top.0 busy v stage }
 {
     match stage {
-        Stage::Idle => Stage::Idle,
-        Stage::Opened => first_stage(busy, record::codes::code_of(v)),
-        Stage::Unheard => Stage::Unheard,
+        Stage::Idle | Stage::Unheard | Stage::Over(_) => stage,
+        Stage::Opened => first_stage(busy, Code::from(v)),
         Stage::Instruction(c) => second_stage(top, v, c),
         Stage::Reading(p) => Stage::Reading(read_on(top, p)),
         Stage::Writing(p) => Stage::Writing(written_on(p)),
         Stage::Second(q) => Stage::Over(third_byte(q)),
-        Stage::Over(l) => Stage::Over(l),
     }
 }
 
@@ -97,10 +89,11 @@ fn stage_after(top: EepromAddress, busy: bool, v: u8, stage: Stage) -> Stage
 fn emptied_load(load: Load, v: u8) -> Load
     ensures { result ≡ emptied load v }
 {
-    let mut next = load;
-    next.offsets = 0;
-    next.next = v % 8;
-    next
+    Load {
+        offsets: 0,
+        next: v % 8,
+        ..load
+    }
 }
 
 // A data byte of a page write: it rolls inside the page, and a later one replaces an earlier.
@@ -108,30 +101,12 @@ fn loaded_with(load: Load, v: u8) -> Load
     ensures { result ≡ loaded_with load v }
 {
     let k = load.next % 8;
-    let i = k as usize;
-    let mut next = load;
-    next.offsets = load.offsets | OFFSETS[i];
-    next.bytes[i] = v;
-    next.next = (k + 1) % 8;
-    next
-}
-
-fn addressed_load(load: Load, v: u8, code: Code) -> Load
-    ensures { result ≡ pick (writes_page code) (emptied load v) load }
-{
-    if code.writes_page() {
-        return emptied_load(load, v);
-    }
-    load
-}
-
-fn writing_load(load: Load, v: u8, place: Place) -> Load
-    ensures { result ≡ writing_load load v place }
-{
-    match place {
-        Place::EepromAt(_) => loaded_with(load, v),
-        Place::ClockAt(_) => load,
-        Place::IdAt(_) => loaded_with(load, v),
+    let mut bytes = load.bytes;
+    bytes[usize::from(k)] = v;
+    Load {
+        offsets: load.offsets | (1 << k),
+        bytes,
+        next: (k + 1) % 8,
     }
 }
 
@@ -139,40 +114,19 @@ fn load_after(load: Load, v: u8, stage: Stage) -> Load
     ensures { result ≡ load_after load v stage }
 {
     match stage {
-        Stage::Idle => load,
-        Stage::Opened => load,
-        Stage::Unheard => load,
-        Stage::Instruction(c) => addressed_load(load, v, c),
-        Stage::Reading(_) => load,
-        Stage::Writing(p) => writing_load(load, v, p),
-        Stage::Second(_) => load,
-        Stage::Over(_) => load,
+        Stage::Instruction(c) if c.writes_page() => emptied_load(load, v),
+        Stage::Writing(Place::EepromAt(_) | Place::IdAt(_)) => loaded_with(load, v),
+        _ => load,
     }
 }
 
 // WRITE stores each byte as it comes.
-fn written_place(boots: bool, d: Device, v: u8, place: Place) -> Device
-    ensures { result ≡ written_place boots d v place }
-{
-    match place {
-        Place::EepromAt(_) => d,
-        Place::ClockAt(a) => registers::write::write_clock(boots, d, a, v),
-        Place::IdAt(_) => d,
-    }
-}
-
 fn written_at(boots: bool, d: Device, v: u8, stage: Stage) -> Device
     ensures { result ≡ written_at boots d v stage }
 {
     match stage {
-        Stage::Idle => d,
-        Stage::Opened => d,
-        Stage::Unheard => d,
-        Stage::Instruction(_) => d,
-        Stage::Reading(_) => d,
-        Stage::Writing(p) => written_place(boots, d, v, p),
-        Stage::Second(_) => d,
-        Stage::Over(_) => d,
+        Stage::Writing(Place::ClockAt(a)) => registers::write::write_clock(boots, d, a, v),
+        _ => d,
     }
 }
 
@@ -180,27 +134,25 @@ fn written_at(boots: bool, d: Device, v: u8, stage: Stage) -> Device
 pub fn after_byte(boots: bool, top: EepromAddress, v: u8, d: Device) -> Device
     ensures { result ≡ after_byte boots top.0 v d }
 {
-    let before = d.frame;
-    let stage = before.stage;
-    let old = d.load;
+    let stage = d.frame.stage;
     let busy = ticks::lines::in_progress(d);
     let moved = stage_after(top, busy, v, stage);
-    let load = load_after(old, v, stage);
-    let frame = Frame { stage: moved };
-    let mut next = written_at(boots, d, v, stage);
-    next.frame = frame;
-    next.load = load;
-    next
+    let load = load_after(d.load, v, stage);
+    Device {
+        frame: Frame { stage: moved },
+        load,
+        ..written_at(boots, d, v, stage)
+    }
 }
 
 // Select opens a frame.
 pub fn after_select(d: Device) -> Device
     ensures { result ≡ after_select d }
 {
-    let frame = Frame {
-        stage: Stage::Opened,
-    };
-    let mut next = d;
-    next.frame = frame;
-    next
+    Device {
+        frame: Frame {
+            stage: Stage::Opened,
+        },
+        ..d
+    }
 }

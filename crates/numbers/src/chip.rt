@@ -11,7 +11,7 @@ ghost use Rattle.numbers.specs.Tables.{number_limit};
 
 use events::Events;
 use record::numbered::Numbered;
-use record::{Counters, Cycle, Device, Frame, Guard, Load, Lock, Stage, Target};
+use record::{Counters, Cycle, Device, Frame, Guard, Load, Lock, Protection, Stage, Target};
 
 // The first n numbers of a list; all of them where there are fewer.
 pub fn first(list: &[u64], n: usize) -> &[u64]
@@ -71,7 +71,7 @@ impl RecordNumbers<'_> {
         let list = self.list;
         Guard {
             wel: list[104] == 1,
-            protection: record::number::protection_of(list[105] as u8),
+            protection: Protection::from(list[105] as u8),
             lock: Lock::from(list[106] as u8),
         }
     }
@@ -165,7 +165,7 @@ fn head_numbers(d: Device) -> [u64; 14]
         u64::from(d.power),
         u64::from(d.mark),
         u64::from(guard.wel),
-        u64::from(record::number::protection_number(guard.protection)),
+        u64::from(u8::from(guard.protection)),
         u64::from(u8::from(guard.lock)),
         u64::from(stage.kind),
         u64::from(stage.which),

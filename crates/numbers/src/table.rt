@@ -11,7 +11,7 @@ ghost use Rattle.numbers.specs.Tables.{row_of};
 
 use detect::control;
 use record::numbered::Numbered;
-use record::{ClockAddress, Stage, part, registers, stages};
+use record::{ClockAddress, Code, Stage, part, registers};
 
 // How many numbers a part of 2 Kbit has.
 pub const NUMBERS: usize = 400;
@@ -190,7 +190,7 @@ fn foreign(kind: u64, which: u64) -> bool
         which: byte_of(which),
         value: 0,
     });
-    stages::foreign_to_wip(stage)
+    stage.foreign_to_wip()
 }
 
 fn case_limit(kind: u64) -> u64
@@ -203,7 +203,7 @@ pub fn case_good(kind: u64, n: u64) -> bool
     ensures { result ≡ case_good kind n }
 {
     let b = byte_of(n);
-    (n < case_limit(kind)) & ((kind != 3) | (record::codes::code_of(b).number() == b))
+    (n < case_limit(kind)) & ((kind != 3) | (u8::from(Code::from(b)) == b))
 }
 
 fn address_limit(size: u64, memory: u64) -> u64

@@ -13,9 +13,8 @@ use lib.ListN.{length, get_or, set, length-set}
 use lib.Seq.{get_or-set_other}
 use mir.Val.{Fits}
 use mir.Syntax.{w8}
-use Rattle.base.specs.Words.{every, bit, flag, members, changes}
+use Rattle.base.specs.Words.{bit, members, changes}
 use Rattle.base.proofs.Tests.{pick_case, pick_when, flag_below}
-use Rattle.base.proofs.Every.{same_below}
 use Rattle.base.proofs.BitLaws.{count_ones, members_most, below_mask}
 use Rattle.base.proofs.StoreLaws.{set_case, store_changes}
 use Rattle.record.specs.declared.Device.{Device}
@@ -53,11 +52,6 @@ ones_stored offsets mask h = count_ones (bit_and offsets mask) (under_mask_lem o
 
 pub ones_fit : (offsets mask : ℕ) → mask < 256 → Fits w8 (ones (bit_and offsets mask))
 ones_fit offsets mask h = record { fits = omega (arith, ones-le 8 (bit_and offsets mask) (under_mask_lem offsets mask h)) }
-
--- bit 0 of a mask
-pub first_bit : (m : ℕ) → m < 256 → m % 2 ≡ flag (bit m 0)
-unfolding every
-first_bit m h = same_below (λ (n : ℕ). n % 2) (λ (n : ℕ). flag (bit n 0)) 256 refl m h
 
 -- a cut on the battery
 abbrev battery_cut : ℕ → Device → Device

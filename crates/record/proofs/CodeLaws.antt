@@ -8,6 +8,8 @@ use lib.Dec.{eqb}
 use Rattle.base.proofs.Tests.{by_cases, first_when, true_false}
 use Rattle.record.specs.declared.Code.{Code}
 use Rattle.record.specs.declared.Code.TheVariants.{Eeread, Eewrite, Eewrdi, Eewren, Srread, Srwrite, Read, Write, Unlock, Idwrite, Idread, Clrwdt, Clrram, Other}
+use denote.Enum.Bare.{sameb, same_true, same_false}
+use Rattle.record.specs.contracts.Code.{the_type}
 use Rattle.record.specs.Codes.{codes, code_of, code_number, is_code}
 
 pub code_back : (c : Code) → code_of (code_number c) ≡ c
@@ -29,6 +31,13 @@ code_back Other = refl
 -- two codes with the same byte are the same
 pub same_code : (c d : Code) → is_code c d ≡ true → c ≡ d
 same_code c d e = sym (code_back c) ∙ ap code_of (eqb-true (code_number c) (code_number d) e) ∙ code_back d
+
+-- the derived equality of codes is the test of their bytes
+pub derived_equality : (c d : Code) → sameb the_type c d ≡ is_code c d
+derived_equality c d =
+    by_cases (sameb the_type c d)
+    (λ t. t ∙ sym (eq-eqb (code_number c) (code_number d) (ap code_number (same_true the_type tt c d t))))
+    (λ t. t ∙ sym (ne_eqb (code_number c) (code_number d) (λ e. same_false the_type c d t (same_code c d (eq-eqb (code_number c) (code_number d) e)))))
 
 -- a byte that has a code is that code's byte
 pub code_byte : (b : ℕ) → is_code (code_of b) Other ≡ false → code_number (code_of b) ≡ b

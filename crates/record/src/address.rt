@@ -1,9 +1,24 @@
 // The three kinds of address: how each is taken from a byte, rolls over, and lies in a page.
-ghost use Rattle.std.specs.Prelude.{◌≡◌};
+ghost use Rattle.std.specs.Prelude.{◌≡◌, ◌+◌, ltb};
+ghost use Rattle.base.specs.Words.{pick};
 ghost use Rattle.record.specs.Address.{roll_eeprom, taken_eeprom, roll_id, taken_id, roll_clock, page_of};
 
 use crate::part::{ID_LAST, ID_SIZE};
 use crate::{ClockAddress, EepromAddress, IdAddress};
+
+// The address after one, from the last back to 0.
+fn rolled(address: u8, last: u8) -> u8
+    ensures { result ≡ pick (ltb address last) (address + 1) 0 }
+{
+    if address < last { address + 1 } else { 0 }
+}
+
+// Where the page of an address begins. Two methods over it, of a line each: a trait would want two impls and a bound.
+fn page_of(address: u8) -> usize
+    ensures { result ≡ page_of address }
+{
+    usize::from(address / 8 * 8)
+}
 
 impl EepromAddress {
     // The address byte as a part with this top address takes it: 1 Kbit drops bit 7.
@@ -17,19 +32,14 @@ impl EepromAddress {
     pub fn next(self, top: EepromAddress) -> EepromAddress
         ensures { result ≡ roll_eeprom top.0 self }
     {
-        let a = self.0;
-        if a < top.0 {
-            EepromAddress(a + 1)
-        } else {
-            EepromAddress(0)
-        }
+        EepromAddress(rolled(self.0, top.0))
     }
 
     // Where its page begins in the memory.
     pub fn page(self) -> usize
         ensures { result ≡ page_of self.0 }
     {
-        (self.0 / 8 * 8) as usize
+        page_of(self.0)
     }
 }
 
@@ -45,19 +55,14 @@ impl IdAddress {
     pub fn next(self) -> IdAddress
         ensures { result ≡ roll_id self }
     {
-        let a = self.0;
-        if a < ID_LAST {
-            IdAddress(a + 1)
-        } else {
-            IdAddress(0)
-        }
+        IdAddress(rolled(self.0, ID_LAST))
     }
 
     // Where its page begins in the memory.
     pub fn page(self) -> usize
         ensures { result ≡ page_of self.0 }
     {
-        (self.0 / 8 * 8) as usize
+        page_of(self.0)
     }
 }
 
@@ -66,16 +71,11 @@ impl ClockAddress {
     pub fn next(self) -> ClockAddress
         ensures { result ≡ roll_clock self }
     {
-        let a = self.0;
-        if a == 0x1f {
-            return ClockAddress(0);
+        match self.0 {
+            0x1f => ClockAddress(0),
+            0x5f => ClockAddress(0x20),
+            a if a < 0x60 => ClockAddress(a + 1),
+            _ => self,
         }
-        if a == 0x5f {
-            return ClockAddress(0x20);
-        }
-        if a < 0x60 {
-            return ClockAddress(a + 1);
-        }
-        ClockAddress(a)
     }
 }

@@ -9,9 +9,8 @@ use events::Inputs;
 pub fn inputs_of(d: Device) -> Inputs
     ensures { result ≡ inputs_of d }
 {
-    let events = d.events;
     Inputs {
-        events,
+        events: d.events,
         control: d.regs[EVENT],
     }
 }
@@ -19,9 +18,11 @@ pub fn inputs_of(d: Device) -> Inputs
 pub fn with_inputs(d: Device, s: Inputs) -> Device
     ensures { result ≡ with_inputs d s }
 {
-    let events = s.events;
-    let mut next = d;
-    next.regs[EVENT] = s.control;
-    next.events = events;
-    next
+    let mut regs = d.regs;
+    regs[EVENT] = s.control;
+    Device {
+        regs,
+        events: s.events,
+        ..d
+    }
 }

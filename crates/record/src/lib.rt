@@ -31,7 +31,7 @@ pub struct ClockAddress(pub u8);
 pub struct IdAddress(pub u8);
 
 // The instruction codes, by the sheet's names, and any other code.
-#[derive(Clone, Copy)]
+#[derive(Clone, Copy, PartialEq, Eq)]
 pub enum Code {
     Eeread,
     Eewrite,
@@ -118,7 +118,7 @@ pub enum Protection {
 }
 
 // The lock of the ID bytes: First is UNLOCK 55h taken, and AAh not yet.
-#[derive(Clone, Copy)]
+#[derive(Clone, Copy, PartialEq, Eq)]
 pub enum Lock {
     Closed,
     First,

@@ -4,7 +4,8 @@ ghost use Rattle.record.specs.Numbers.{lock_number, lock_of, act_number, place_k
 ghost use Rattle.record.specs.Numbered.{stage_numbered, stage_from};
 
 use crate::{
-    Act, ClockAddress, EepromAddress, IdAddress, Lock, Long, Pair, Pin, Place, Stage, Target,
+    Act, ClockAddress, Code, EepromAddress, IdAddress, Lock, Long, Pair, Pin, Place, Protection,
+    Stage, Target,
 };
 
 // A stage by its kind, by which of its cases it is, and by what that case carries.
@@ -136,7 +137,7 @@ impl From<Stage> for Numbered {
             Stage::Idle => (0, (0, 0)),
             Stage::Opened => (1, (0, 0)),
             Stage::Unheard => (2, (0, 0)),
-            Stage::Instruction(c) => (3, (c.number(), 0)),
+            Stage::Instruction(c) => (3, (u8::from(c), 0)),
             Stage::Reading(p) => (4, place_numbers(p)),
             Stage::Writing(p) => (5, place_numbers(p)),
             Stage::Second(q) => (6, pair_numbers(q)),
@@ -154,7 +155,7 @@ impl From<Numbered> for Stage {
             0 => Stage::Idle,
             1 => Stage::Opened,
             2 => Stage::Unheard,
-            3 => Stage::Instruction(crate::codes::code_of(n.which)),
+            3 => Stage::Instruction(Code::from(n.which)),
             4 => Stage::Reading(place_of(n.which, n.value)),
             5 => Stage::Writing(place_of(n.which, n.value)),
             6 => Stage::Second(pair_of(n.which, n.value)),
@@ -171,7 +172,7 @@ impl From<Target> for (u8, u8) {
         match target {
             Target::Eeprom(a) => (0, a.0),
             Target::Id(a) => (1, a.0),
-            Target::Status(p) => (2, crate::number::protection_number(p)),
+            Target::Status(p) => (2, u8::from(p)),
         }
     }
 }
@@ -184,7 +185,7 @@ impl From<(u8, u8)> for Target {
         match kind {
             0 => Target::Eeprom(EepromAddress(value)),
             1 => Target::Id(IdAddress(value)),
-            _ => Target::Status(crate::number::protection_of(value)),
+            _ => Target::Status(Protection::from(value)),
         }
     }
 }

@@ -12,7 +12,7 @@ pub const ID_LAST: u8 = ID_SIZE - 1;
 pub fn is_part(part: u64) -> bool
     ensures { result ≡ is_part part }
 {
-    (1 <= part) & (part <= 4)
+    matches!(part, 1..=4)
 }
 
 // The top address of the EEPROM: 7Fh of 1 Kbit, FFh of 2 Kbit.

@@ -45,7 +45,8 @@ pub const POWER_DOWN: ClockAddress = ClockAddress(0x18);
 
 pub const POWER_UP: ClockAddress = ClockAddress(0x1c);
 
-// Bits by the sheet's names, each as its weight: a byte divided by it is odd where the bit is set. 01h:
+// Bits by the sheet's names, each as its weight: a byte divided by it is odd where the bit is set. That test is written out everywhere: it is the
+// definition `bit` as it stands, and a function for it would be a promise more in each proof. 01h:
 pub const ST: u8 = 0x80;
 
 // 03h.

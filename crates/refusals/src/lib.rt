@@ -6,7 +6,7 @@ ghost use Rattle.std.specs.Prelude.{◌≡◌};
 ghost use Rattle.refusals.specs.Refusal.{number_of, refusal_number, wrong_length, wrong_arg, wrong_power, wrong_select, memory_refusal, setup_refusal, act_refusal};
 
 use record::registers::WAIT_LIMIT;
-use record::{Act, Device, part, stages};
+use record::{Act, Device, part};
 
 pub mod range; // range.rt: number 6
 
@@ -113,5 +113,5 @@ pub fn act_refusal(act: Act, arg: u64, d: Device) -> Result<(), Refusal>
     if wrong_power(act, d.power) {
         return Err(Refusal::Power);
     }
-    wrong_select(act, stages::is_selected(d.frame.stage))
+    wrong_select(act, d.frame.stage.is_selected())
 }

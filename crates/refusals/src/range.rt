@@ -6,7 +6,7 @@ use record::part::ID_LAST;
 use record::registers::{
     CYCLE_TICKS, DELAY_TICKS, DIVIDER_LAST, EVENT, LONG_PULSE, SECONDS, ST, STARTUP_TICKS, WATCHDOG,
 };
-use record::{ClockAddress, Counters, Cycle, Device, Load, Stage, part, registers, stages};
+use record::{ClockAddress, Counters, Cycle, Device, Load, Stage, part, registers};
 
 // Some register has a bit set outside its mask.
 fn bit_outside(regs: [u8; 32]) -> bool
@@ -43,9 +43,9 @@ fn clock_out(boots: bool, regs: [u8; 32], c: Counters) -> bool
 fn frame_out(size: u16, stage: Stage, load: Load) -> bool
     ensures { result ≡ frame_out size stage load }
 {
-    let place = stages::frame_place(stage);
-    let id = stages::id_pointer(place);
-    let eeprom = stages::eeprom_pointer(place) as u16;
+    let place = stage.place();
+    let id = place.id_pointer();
+    let eeprom = place.eeprom_pointer() as u16;
     (7 < load.next) | (ID_LAST < id) | (size <= eeprom)
 }
 
@@ -54,9 +54,9 @@ fn frame_out(size: u16, stage: Stage, load: Load) -> bool
 fn cycle_out(size: u16, cycle: Cycle) -> bool
     ensures { result ≡ cycle_out size cycle }
 {
-    let place = stages::cycle_place(cycle.target);
-    let id = stages::id_pointer(place);
-    let eeprom = stages::eeprom_pointer(place) as u16;
+    let place = cycle.target.place();
+    let id = place.id_pointer();
+    let eeprom = place.eeprom_pointer() as u16;
     (CYCLE_TICKS < cycle.left) | (ID_LAST < id) | (size <= eeprom)
 }
 
@@ -66,8 +66,8 @@ fn power_out(power: bool, mark: bool, stage: Stage, cycle: Cycle) -> bool
     ensures { result ≡ power_out power mark stage cycle }
 {
     let busy = 0 < cycle.left;
-    let open = stages::is_selected(stage);
-    let foreign = stages::foreign_to_wip(stage);
+    let open = stage.is_selected();
+    let foreign = stage.foreign_to_wip();
     (power & mark) | (!power & (open | busy)) | (busy & foreign)
 }
 

@@ -8,6 +8,7 @@ use mathlib.Core.Bool.{Bool, true, false, not, ◌&&◌, ◌||◌, false≢true,
 use mathlib.Core.Logic.{◌⊎◌, inl, inr, ⊎_elim}
 use lib.Dec.{eqb, ltb}
 use borrow.Author.Tests.{eq-eqb, ne_eqb, lt-ltb, le-ltb, ltb-true, ltb-false}
+use Rattle.std.specs.Prelude.{Some, None}
 use Rattle.base.specs.Words.{pick, every}
 use Rattle.base.proofs.Tests.{by_cases, pick_case, both_left, both_right}
 use Rattle.base.proofs.Every.{same_below}
@@ -171,14 +172,14 @@ module _ (s : Stage) (load : Load) (f : ledger.Frame) (q : FrameAgrees s load f)
 
   -- the second byte of UNLOCK
   abbrev Byte : Stage → Type 0
-  Byte s = ((eqb f.count 2 ≡ true) × (f.second ≡ locks.unlock_byte s)) ⊎ ((eqb f.count 2 ≡ false) × (locks.unlock_byte s ≡ 256))
+  Byte s = ((eqb f.count 2 ≡ true) × (locks.unlock_byte s ≡ Some f.second)) ⊎ ((eqb f.count 2 ≡ false) × (locks.unlock_byte s ≡ None))
 
   unlock_byte_lem : is_code (code_at s) Unlock ≡ true → Byte s
   unlock_byte_lem u = by s u h q.count q.brought
     where
       pair : (p : Pair) → f.count ≡ 2 → DataAgrees (Second p) load f → is_code (code_at (Second p)) Unlock ≡ true → Byte (Second p)
       pair (StatusData v) n d u = absurd (false≢true u)
-      pair (UnlockData v) n d u = inl (eq-eqb f.count 2 n, d)
+      pair (UnlockData v) n d u = inl (eq-eqb f.count 2 n, ap Some (sym d))
       pair ClearWatchdog n d u = absurd (false≢true u)
       pair ClearRam n d u = absurd (false≢true u)
 
@@ -206,8 +207,8 @@ module _ (s : Stage) (load : Load) (f : ledger.Frame) (q : FrameAgrees s load f)
       (λ u.
       rw (h, test Unlock refl, u)
       (⊎_elim
-      (λ b. rw (b.0, b.1) (unlock_agrees (eqb k 0) (eqb (locks.unlock_byte s) 0x55) (eqb (locks.unlock_byte s) 0xaa) x y e))
-      (λ b. rw (b.0, b.1) (pick_case (λ (l : Lock). LockAgrees l closed) (eqb k 0) refl refl))
+      (λ b. rw (b.0, b.1) (unlock_agrees (eqb k 0) (eqb f.second 0x55) (eqb f.second 0xaa) x y e))
+      (λ b. rw (b.0, b.1) refl)
       (unlock_byte_lem u)))
       (λ u.
       rw (h, test Unlock refl, u, test Eewren refl, test Srread refl)

@@ -5,4 +5,4 @@ use Rattle.ends.proofs.end.after_end.Goals as goal
 
 pub returns : goal.returns
 unfolding after_end
-returns c = simp (c.cycle_after-cycle.ensures, c.lock_after-lock.ensures, c.wel_after-wel.ensures, c.count_after-count.ensures, c.sram_after-sram.ensures)
+returns c = simp (c.cycle_after.ensures, c.lock_after.ensures, c.wel_after.ensures, c.count_after.ensures, c.sram_after.ensures)

@@ -3,10 +3,10 @@
 use Rattle.ends.specs.Write.{cycle_after}
 use Rattle.ends.proofs.write.cycle_after.Goals as goal
 
-pub returns-then-starts : goal.returns-then-starts
+pub returns-then-is_carried : goal.returns-then-is_carried
 unfolding cycle_after
-returns-then-starts c = simp (c.target_at-target.ensures, simp c.is_carried-starts.ensures at c.if-starts.true)
+returns-then-is_carried c = simp (c.target_at.ensures, simp c.is_carried.ensures at c.if-is_carried.true)
 
-pub returns : goal.returns
+pub returns-else-is_carried : goal.returns-else-is_carried
 unfolding cycle_after
-returns c = simp (simp c.is_carried-starts.ensures at c.if-starts.false)
+returns-else-is_carried c = simp (simp c.is_carried.ensures at c.if-is_carried.false)

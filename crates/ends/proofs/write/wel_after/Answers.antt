@@ -1,16 +1,18 @@
--- `ends::write::wel_after`: by the tests of F19 in their order, each a call's promise.
+-- `ends::write::wel_after`: set, or as it was and not cleared, which is F19's choice by cases (`moved`).
 -- Assumes nothing.
+use mathlib.Core.Path.{◌≡◌, refl}
+use mathlib.Core.Bool.{Bool, true, false, not, ◌&&◌, ◌||◌}
+use Rattle.base.specs.Words.{pick}
 use Rattle.ends.specs.Write.{wel_after}
 use Rattle.ends.proofs.write.wel_after.Goals as goal
 
-pub returns-then-set : goal.returns-then-set
-unfolding wel_after
-returns-then-set c = simp (simp c.latched_by-set.ensures at c.if-set.true)
-
-pub returns-then-cleared : goal.returns-then-cleared
-unfolding wel_after
-returns-then-cleared c = simp (simp c.latched_by-cleared.ensures at c.if-cleared.true, simp c.latched_by-set.ensures at c.if-set.false)
+moved : (set cleared wel : Bool) → set || (wel && not cleared) ≡ pick set true (pick cleared false wel)
+moved true cleared wel = refl
+moved false true true = refl
+moved false true false = refl
+moved false false true = refl
+moved false false false = refl
 
 pub returns : goal.returns
 unfolding wel_after
-returns c = simp (simp c.latched_by-cleared.ensures at c.if-cleared.false, simp c.latched_by-set.ensures at c.if-set.false)
+returns c = rw (c.latched_by-set.ensures, c.latched_by-cleared.ensures) (moved _ _ _)

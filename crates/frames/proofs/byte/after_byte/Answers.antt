@@ -5,4 +5,4 @@ use Rattle.frames.proofs.byte.after_byte.Goals as goal
 
 pub returns : goal.returns
 unfolding after_byte
-returns c = simp (c.written_at-next.ensures, c.load_after-load.ensures, c.stage_after-moved.ensures, c.in_progress-busy.ensures)
+returns c = simp (c.written_at.ensures, c.load_after-load.ensures, c.stage_after-moved.ensures, c.in_progress-busy.ensures)

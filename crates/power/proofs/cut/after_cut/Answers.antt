@@ -5,4 +5,4 @@ use Rattle.power.proofs.cut.after_cut.Goals as goal
 
 pub returns : goal.returns
 unfolding after_cut
-returns c = simp (c.clock_cut.ensures, c.takes_stamp-mark.ensures, c.protection_cut-protection.ensures)
+returns c = simp (c.clock_cut.ensures, c.takes_stamp.ensures, c.protection_cut.ensures)

@@ -5,4 +5,4 @@ use Rattle.power.proofs.cut.after_up.Goals as goal
 
 pub returns : goal.returns
 unfolding after_up
-returns c = simp c.return_stamped-stamped.ensures
+returns c = simp c.return_stamped.ensures

@@ -4,10 +4,10 @@ use borrow.Author.Tests.{eq-eqb, ne_eqb}
 use Rattle.power.specs.Power.{cut_count}
 use Rattle.power.proofs.cut.cut_count.Goals as goal
 
-pub returns-then-y-eq0 : goal.returns-then-y-eq0
+pub returns-then-d-eq0 : goal.returns-then-d-eq0
 unfolding cut_count
-returns-then-y-eq0 c = simp (eq-eqb _ _ c.if-y-eq0.true)
+returns-then-d-eq0 c = simp (eq-eqb _ _ c.if-d-eq0.true)
 
-pub returns : goal.returns
+pub returns-else-d-eq0 : goal.returns-else-d-eq0
 unfolding cut_count
-returns c = simp (c.stored_count.ensures, ne_eqb _ _ c.if-y-eq0.false)
+returns-else-d-eq0 c = simp (c.stored_count.ensures, ne_eqb _ _ c.if-d-eq0.false)
