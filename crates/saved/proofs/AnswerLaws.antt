@@ -19,13 +19,24 @@ use Rattle.record.specs.Numbers.{stage_value}
 use Rattle.record.specs.Part.{size_of, id_size}
 use Rattle.record.specs.World.{World, world, Bytes, Sized}
 use Rattle.record.proofs.PartLaws.{size_most}
-use Rattle.refusals.specs.Refusal.{wrong_length, setup_refusal}
+use Rattle.std.specs.Prelude.{Result, Ok, Err}
+use Rattle.std.specs.Result.{IsErrAnd}
+use Rattle.refusals.specs.declared.Refusal.{Refusal}
+use Rattle.refusals.specs.Refusal.{refusal_number, wrong_length, setup_refusal}
+use Rattle.refusals.proofs.NumberLaws.{refusal_not_zero}
+use Rattle.saved.specs.declared.SaveError.{SaveError}
+use Rattle.saved.specs.declared.SaveError.TheVariants.{Refused}
+use Rattle.saved.specs.Answer.{saving_of}
 use Rattle.refusals.proofs.TableLaws.{Suited, setup_passed}
 use Rattle.refusals.proofs.RangeLaws.{in_range_lem}
 use Rattle.text.specs.Buffer.{Buffer, buffer, append}
 use Rattle.form.specs.Form.{Loaded, loaded, bad, load}
 use Rattle.form.specs.Table.{part_in, chip_events, chip_form}
-use Rattle.form.specs.Chip.{head_numbers, tail_numbers, event_numbers, numbers_of, device_from, world_of, IsChip, saved_text, Sound}
+use Rattle.text.proofs.BufferLaws.{put_place}
+use Rattle.form.proofs.ChipLaws.{sound_numbers}
+use Rattle.saved.proofs.KeyLaws.{put_first}
+use Rattle.saved.proofs.SizeLaws.{text_long}
+use Rattle.form.specs.Chip.{form_text, head_numbers, tail_numbers, event_numbers, numbers_of, device_from, world_of, IsChip, saved_text, Sound}
 use Rattle.form.specs.Facts.{BytesFrom, RecordFacts, EventFacts}
 use Rattle.form.specs.Save.{save_refusal, not_saved, written, saves, loading, load_answer, loads}
 use Rattle.form.proofs.FactLaws.{good_facts}
@@ -36,6 +47,12 @@ use Rattle.saved.specs.Place.{TextRead}
 use Rattle.saved.proofs.RowLaws.{text_reads}
 
 -- A chip that code holds and the table does not refuse is in range.
+pub record Held (part : ℕ) (d : Device) (ee id : List ℕ) : Type 0 where
+  pub passed : setup_refusal part d (length ee) (length id) ≡ 0
+  pub sized : Sized d
+  pub eeprom_bytes : Bytes ee
+  pub id_bytes : Bytes id
+
 module _ (part : ℕ) (d : Device) (ee id : List ℕ) (k : setup_refusal part d (length ee) (length id) ≡ 0) (s : Sized d) (be : Bytes ee) (bi : Bytes id) where
   suits : Suited part d (length ee) (length id)
   suits = setup_passed part d (length ee) (length id) k
@@ -79,6 +96,37 @@ module _ (part : ℕ) (d : Device) (ee id : List ℕ) (k : setup_refusal part d 
             length-append i v,
           )
 
+-- The list and the text that code puts of it, in its own buffers.
+module _ (part : ℕ) (d : Device) (ee id : List ℕ) (h : Held part d ee id) where
+  abbrev all : List ℕ
+  all = numbers_of part (world d ee id)
+
+  pub few_held : length all ≤ number_limit
+  few_held = numbers_few part d ee id h.passed h.sized h.eeprom_bytes h.id_bytes
+
+  pub list_put :
+      (buf m x : List ℕ) (n : ℕ) → length buf ≡ number_limit → stage_value d.frame.stage < 256 → buffer m n ≡ append (buffer buf 0) all → x ≡ take n m
+      → (x ≡ all) × IsChip x × (length (form_text x) ≤ 8000)
+  list_put buf m x n l v e t =
+      let g = sound_numbers part (world d ee id) (held_sound part d ee id h.passed h.sized h.eeprom_bytes h.id_bytes v) in
+      let s : x ≡ all = t ∙ put_first buf m all n (room few_held l) e in
+      (s, subst IsChip (sym s) g, subst (λ (y : List ℕ). length (form_text y) ≤ 8000) (sym s) (text_long all g))
+    where
+      room : {a b : ℕ} → a ≤ 400 → b ≡ 400 → 0 + a ≤ b
+      room p q = omega (arith, p, q)
+
+  pub text_put :
+      (buf m x t : List ℕ) (n : ℕ) → length buf ≡ 8000 → (x ≡ all) × IsChip x × (length (form_text x) ≤ 8000) → buffer m n ≡ append (buffer buf 0) (form_text x)
+      → t ≡ take n m → (n ≡ length (form_text all)) × (t ≡ form_text all)
+  text_put buf m x t n l h e p =
+      let s = ap form_text h.0 in (
+        put_place (buffer buf 0) (form_text x) e ∙ zero-add (length (form_text x)) ∙ ap length s,
+        p ∙ put_first buf m (form_text x) n (room h.2 l) e ∙ s,
+      )
+    where
+      room : {a b : ℕ} → a ≤ 8000 → b ≡ 8000 → 0 + a ≤ b
+      room p q = omega (arith, p, q)
+
 -- What saving answers.
 module _ (part : ℕ) (w : World) (room : List ℕ) where
   abbrev setup : ℕ
@@ -108,6 +156,13 @@ module _ (part : ℕ) (w : World) (room : List ℕ) where
     save_done h =
         let r = fits_is false (le-ltb (length room) (length (saved_text part w)) h) in
         yes (written (saved_text part w) room) (not_saved (save_refusal part w (length room)) room) (ap (λ (c : ℕ). eqb c 0) r)
+
+-- what the refusal table answers, as `?` hands it on
+pub save_denied :
+    (part : ℕ) (w : World) (room : List ℕ) (k : Refusal) (r : Result ℕ SaveError) → IsErrAnd r (λ e. e ≡ Refused k)
+    → refusal_number k ≡ setup_refusal part w.device (length w.eeprom) (length w.id) → saving_of r room ≡ saves part w room
+save_denied part w room k (Ok n) h e = elim h [ ]
+save_denied part w room k (Err x) h e = ap (λ (y : SaveError). saving_of (Err y) room) h ∙ save_refused part w room (refusal_number k) e (refusal_not_zero k)
 
 -- a text put at the beginning of a room
 pub put_over : (room m text : List ℕ) (at : ℕ) → 0 + length text ≤ length room → buffer m at ≡ append (buffer room 0) text → m ≡ over text room

@@ -1,14 +1,16 @@
 #![tactic(auto)]
 
 // A chip saved as text, and loaded from it.
-ghost use Rattle.std.specs.Prelude.{◌≡◌};
-ghost use Rattle.refusals.specs.Refusal.{setup_refusal};
+ghost use Rattle.std.specs.Prelude.{◌≡◌, ℕ};
+ghost use Rattle.record.specs.declared.Device.{Device};
 ghost use Rattle.record.specs.World.{world};
 ghost use Rattle.form.specs.Save.{saves, loads};
+ghost use Rattle.saved.specs.declared.SaveError.TheVariants.{Refused};
 ghost use Rattle.saved.specs.Answer.{saving_of, loading_of};
 
 use numbers::{chip, table};
 use record::Device;
+use refusals::Refusal;
 use text::{buffer, bytes};
 
 mod key; // key.rt: the beginning of a line
@@ -27,98 +29,81 @@ pub struct Place {
     pub stopped: bool,
 }
 
-// What saving answers: a number, 0 for done; the line, always 0; how many bytes the text has.
-#[derive(Clone, Copy)]
-pub struct Saved {
-    pub number: u8,
-    pub line: usize,
-    pub length: usize,
+// Why a chip is not saved.
+#[derive(Clone, Copy, Debug, PartialEq, Eq)]
+pub enum SaveError {
+    // part, memories or record, as an act is refused
+    Refused(Refusal),
+    // too little room
+    NoRoom,
 }
 
-// What loading answers: a number, 0 for done; the first bad line, from 1, where there is one; the chip's part and record.
+impl From<Refusal> for SaveError {
+    ghost from_gives = { λ refusal e. e ≡ Refused refusal };
+
+    fn from(refusal: Refusal) -> SaveError {
+        SaveError::Refused(refusal)
+    }
+}
+
+// What a text holds: the chip's part and record.
 #[derive(Clone, Copy)]
 pub struct Loaded {
-    pub number: u8,
-    pub line: usize,
     pub part: u64,
     pub device: Device,
 }
 
-// The number of what is wrong with part, memories and record, 0 where nothing is.
-fn setup_number(part: u64, device: Device, eeprom: usize, id: usize) -> u8
-    ensures { result ≡ setup_refusal part device eeprom id }
-{
-    match refusals::setup_refusal(part, device, eeprom, id) {
-        Ok(()) => 0,
-        Err(refusal) => u8::from(refusal),
-    }
+// Why a text is not loaded.
+#[derive(Clone, Copy, Debug, PartialEq, Eq)]
+pub enum LoadError {
+    // its first bad line, from 1
+    BadLine(usize),
+    // the lent memories have not the lengths of the text's part
+    WrongLength,
 }
 
-// Puts the text of a chip into the room lent. Refused by 3, 4 and 6 as an act is, then by 8 where there is too little room; then nothing is written.
-pub fn save(part: u64, device: Device, eeprom: &[u8], id: &[u8], into: &mut [u8]) -> Saved
+// Puts the text of a chip into the room lent, and answers how many bytes it has. Refused as an act is, then where there is too little room; then nothing is
+// written.
+pub fn save(
+    part: u64,
+    device: Device,
+    eeprom: &[u8],
+    id: &[u8],
+    into: &mut [u8],
+) -> Result<usize, SaveError>
     ensures { saving_of result into.new ≡ saves part (world device eeprom.now id.now) into.old }
 {
-    let refused = setup_number(part, device, eeprom.len(), id.len());
-    if refused != 0 {
-        return Saved {
-            number: refused,
-            line: 0,
-            length: 0,
-        };
-    }
+    refusals::setup_refusal(part, device, eeprom.len(), id.len())?;
     let mut numbers = [0u64; table::NUMBERS];
     let count = chip::numbers_of(part, device, eeprom, id, &mut numbers);
     let mut text = [0u8; TEXT_ROOM];
     let length = put::put_rows(chip::first(&numbers, count), &mut text);
     if into.len() < length {
-        return Saved {
-            number: 8,
-            line: 0,
-            length: 0,
-        };
+        return Err(SaveError::NoRoom);
     }
     buffer::put(bytes::first(&text, length), into, 0);
-    Saved {
-        number: 0,
-        line: 0,
-        length,
-    }
+    Ok(length)
 }
 
-// Takes part, record and memories from a text. Refused by 8 with the first bad line, then by 4 where the lent memories have not the lengths of the text's
-// part; then part, record and memories are as they were.
-pub fn load(text: &[u8], part: u64, device: Device, eeprom: &mut [u8], id: &mut [u8]) -> Loaded
-    ensures { loading_of result eeprom.new id.new ≡ loads text.now part (world device eeprom.old id.old) }
+// Takes part, record and memories from a text. Refused with the first bad line, then where the lent memories have not the lengths of the text's part; then
+// the memories are as they were, and so is whatever part and record stood beside them.
+pub fn load(text: &[u8], eeprom: &mut [u8], id: &mut [u8]) -> Result<Loaded, LoadError>
+    ensures { (part : ℕ) (device : Device) → loading_of result part (world device eeprom.new id.new) ≡ loads text.now part (world device eeprom.old id.old) }
 {
     let mut numbers = [0u64; table::NUMBERS];
     let read = read::read_rows(text, &mut numbers);
     let place = read.place;
     if place.stopped | (place.at < text.len()) {
-        return Loaded {
-            number: 8,
-            line: place.lines + 1,
-            part,
-            device,
-        };
+        return Err(LoadError::BadLine(place.lines + 1));
     }
     let list = chip::first(&numbers, read.count);
-    let named = list[0];
-    if refusals::wrong_length(named, eeprom.len(), id.len()) {
-        return Loaded {
-            number: 4,
-            line: 0,
-            part,
-            device,
-        };
+    let part = list[0];
+    if refusals::wrong_length(part, eeprom.len(), id.len()) {
+        return Err(LoadError::WrongLength);
     }
     chip::take_bytes(list, 123, eeprom);
     chip::take_bytes(list, 123 + eeprom.len(), id);
-    let from = table::events_from(named);
-    let loaded = chip::device_of(list, from);
-    Loaded {
-        number: 0,
-        line: 0,
-        part: named,
-        device: loaded,
-    }
+    let from = table::events_from(part);
+    let device = chip::device_of(list, from);
+    Ok(Loaded { part, device })
 }
