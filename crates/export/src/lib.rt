@@ -3,10 +3,12 @@
 // The chip for a caller in another language, but its acts, which are in `calls`: a fresh chip, its text, and a chip from text. C calls it by `export_c`.
 ghost use Rattle.std.specs.Prelude.{◌≡◌, []};
 ghost use Rattle.arrays.specs.Arrays.{arrays};
+ghost use Rattle.saved.specs.Answer.{load_line};
 ghost use Rattle.calls.specs.Calls.{called, newly, wrote, saves_state, loads_state};
 
 use arrays::{Chip, STATE};
 use refusals::Refusal;
+use saved::LoadError;
 
 // A fresh chip of a part. Refused by 3 for a part that is none, by 4 for a memory of another length, by 6 for a state array of another length; then nothing
 // changes.
@@ -42,9 +44,26 @@ pub fn mcp795_save(
             return u64::from(u8::from(refusal));
         }
     };
-    let s = saved::save(u64::from(chip.part), chip.device, eeprom, id, text);
-    *length = [s.length as u64];
-    s.number as u64
+    match saved::save(u64::from(chip.part), chip.device, eeprom, id, text) {
+        Ok(written) => {
+            *length = [written as u64];
+            0
+        }
+        Err(error) => {
+            *length = [0];
+            u64::from(u8::from(error))
+        }
+    }
+}
+
+// The first bad line, 0 where there is none.
+fn bad_line(error: LoadError) -> u64
+    ensures { result ≡ load_line error }
+{
+    match error {
+        LoadError::BadLine(line) => line as u64,
+        LoadError::WrongLength => 0,
+    }
 }
 
 // The chip of a text. Refused by 6 for a state array of another length, by 8 with the first bad line, by 4 for a memory of another length; then nothing changes.
@@ -61,15 +80,18 @@ pub fn mcp795_load(
         *line = [0];
         return u64::from(u8::from(Refusal::Range));
     }
-    let fresh = record::fresh_device();
-    let l = saved::load(text, 0, fresh, eeprom, id);
-    *line = [l.line as u64];
-    if l.number != 0 {
-        return l.number as u64;
+    match saved::load(text, eeprom, id) {
+        Ok(loaded) => {
+            *line = [0];
+            state.copy_from_slice(&<[u8; STATE]>::from(Chip {
+                part: (loaded.part % 256) as u8,
+                device: loaded.device,
+            }));
+            0
+        }
+        Err(error) => {
+            *line = [bad_line(error)];
+            u64::from(u8::from(error))
+        }
     }
-    state.copy_from_slice(&<[u8; STATE]>::from(Chip {
-        part: (l.part % 256) as u8,
-        device: l.device,
-    }));
-    0
 }

@@ -3,7 +3,7 @@ use crate::argument::{Kept, Name};
 use crate::one_tape::{Chip, Source};
 use crate::tell::{Reason, Stop, tell};
 use crate::{argument, file};
-use saved::Loaded;
+use saved::{LoadError, Loaded, SaveError};
 use tape::Tape;
 use text::bytes;
 
@@ -18,22 +18,18 @@ fn load_chip(
     text: &[u8],
     eeprom: &mut [u8; tape::chunk::EEPROM_ROOM],
     id: &mut [u8; tape::chunk::ID_SIZE],
-) -> Loaded {
-    let fresh = record::fresh_device();
-    let larger = saved::load(text, 0, fresh, eeprom, id);
-    if larger.number != 4 {
+) -> Result<Loaded, LoadError> {
+    let larger = saved::load(text, eeprom, id);
+    if !matches!(larger, Err(LoadError::WrongLength)) {
         return larger;
     }
-    saved::load(text, 0, fresh, &mut eeprom[..SMALLER], id)
+    saved::load(text, &mut eeprom[..SMALLER], id)
 }
 
 // The chip of a text.
 fn load_text(text: &[u8]) -> Result<Chip, Reason> {
     let mut chip = Chip::new();
-    let loaded = load_chip(text, &mut chip.eeprom, &mut chip.id);
-    if loaded.number != 0 {
-        return Err(refused(loaded.number, loaded.line));
-    }
+    let loaded = load_chip(text, &mut chip.eeprom, &mut chip.id).map_err(not_loaded)?;
     chip.tape = Tape {
         part: loaded.part,
         device: loaded.device,
@@ -42,11 +38,22 @@ fn load_text(text: &[u8]) -> Result<Chip, Reason> {
     Ok(chip)
 }
 
-// A chip is refused by a number, and there may be a first bad line.
-fn refused(number: u8, line: usize) -> Reason {
+// A text is refused by a number, and there may be a first bad line; a chip is by a number alone.
+fn not_loaded(error: LoadError) -> Reason {
+    let line = match error {
+        LoadError::BadLine(line) => Some(line),
+        LoadError::WrongLength => None,
+    };
     Reason::Refused {
-        number,
-        line: (line != 0).then_some(line),
+        number: u8::from(error),
+        line,
+    }
+}
+
+fn not_saved(error: SaveError) -> Reason {
+    Reason::Refused {
+        number: u8::from(error),
+        line: None,
     }
 }
 
@@ -72,10 +79,10 @@ fn save(rt: HostRuntime, name: &[u8], chip: &Chip) -> Result<(), Stop> {
         &chip.id,
         &mut room,
     );
-    if saved.number != 0 {
-        return Err(tell(rt, name, &refused(saved.number, saved.line)));
+    match saved {
+        Ok(length) => file::replace(rt, name, bytes::first(&room, length)),
+        Err(error) => Err(tell(rt, name, &not_saved(error))),
     }
-    file::replace(rt, name, bytes::first(&room, saved.length))
 }
 
 // The name of a tape by its place. Where there is none, that is the dash, standard input.

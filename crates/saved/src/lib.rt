@@ -6,7 +6,7 @@ ghost use Rattle.record.specs.declared.Device.{Device};
 ghost use Rattle.record.specs.World.{world};
 ghost use Rattle.form.specs.Save.{saves, loads};
 ghost use Rattle.saved.specs.declared.SaveError.TheVariants.{Refused};
-ghost use Rattle.saved.specs.Answer.{saving_of, loading_of};
+ghost use Rattle.saved.specs.Answer.{save_number, saving_of, load_number, loading_of};
 
 use numbers::{chip, table};
 use record::Device;
@@ -46,6 +46,18 @@ impl From<Refusal> for SaveError {
     }
 }
 
+// The number of an error, as the definitions have it.
+impl From<SaveError> for u8 {
+    ghost from_gives = { λ e n. n ≡ save_number e };
+
+    fn from(error: SaveError) -> u8 {
+        match error {
+            SaveError::Refused(refusal) => u8::from(refusal),
+            SaveError::NoRoom => 8,
+        }
+    }
+}
+
 // What a text holds: the chip's part and record.
 #[derive(Clone, Copy)]
 pub struct Loaded {
@@ -60,6 +72,17 @@ pub enum LoadError {
     BadLine(usize),
     // the lent memories have not the lengths of the text's part
     WrongLength,
+}
+
+impl From<LoadError> for u8 {
+    ghost from_gives = { λ e n. n ≡ load_number e };
+
+    fn from(error: LoadError) -> u8 {
+        match error {
+            LoadError::BadLine(_) => 8,
+            LoadError::WrongLength => 4,
+        }
+    }
 }
 
 // Puts the text of a chip into the room lent, and answers how many bytes it has. Refused as an act is, then where there is too little room; then nothing is
