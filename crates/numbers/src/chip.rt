@@ -12,16 +12,7 @@ ghost use Rattle.numbers.specs.Tables.{number_limit};
 use events::Events;
 use record::numbered::Numbered;
 use record::{Counters, Cycle, Device, Frame, Guard, Load, Lock, Protection, Stage, Target};
-
-// The first n numbers of a list; all of them where there are fewer.
-pub fn first(list: &[u64], n: usize) -> &[u64]
-    ensures { result.now ≡ take n list.now }
-{
-    if list.len() < n {
-        return &list[..];
-    }
-    &list[..n]
-}
+use text::buffer;
 
 // Numbers from a place on, as bytes.
 pub fn take_bytes(numbers: &[u64], from: usize, into: &mut [u8])
@@ -198,17 +189,7 @@ fn event_numbers(e: Events) -> [u64; 5]
     ]
 }
 
-// Numbers put into a list, and bytes. Each answers the place after what it put.
-fn put_numbers(from: &[u64], into: &mut [u64], at: usize) -> usize
-    requires { at + length from.now ≤ length into.old }
-    ensures { buffer into.new result ≡ append (buffer into.old at) from.now }
-{
-    for i in 0..from.len() {
-        into[at + i] = from[i];
-    }
-    at + from.len()
-}
-
+// Bytes put into a list of numbers; the place after them is answered.
 fn put_bytes(from: &[u8], into: &mut [u64], at: usize) -> usize
     requires { at + length from.now ≤ length into.old }
     ensures { buffer into.new result ≡ append (buffer into.old at) from.now }
@@ -217,14 +198,6 @@ fn put_bytes(from: &[u8], into: &mut [u64], at: usize) -> usize
         into[at + i] = u64::from(from[i]);
     }
     at + from.len()
-}
-
-fn put_number(n: u64, into: &mut [u64], at: usize) -> usize
-    requires { at + 1 ≤ length into.old }
-    ensures { buffer into.new result ≡ append (buffer into.old at) (n ∷ []) }
-{
-    into[at] = n;
-    at + 1
 }
 
 fn put_arrays(regs: [u8; 32], sram: [u8; 64], into: &mut [u64], at: usize) -> usize
@@ -242,7 +215,7 @@ fn put_load(load: Load, cycle: Cycle, into: &mut [u64], at: usize) -> usize
     let bytes = load.bytes;
     let tail = tail_numbers(load, cycle);
     let next = put_bytes(&bytes, into, at);
-    put_numbers(&tail, into, next)
+    buffer::put(&tail, into, next)
 }
 
 // The record, from its registers to its cycle.
@@ -257,7 +230,7 @@ fn put_record(d: Device, into: &mut [u64], at: usize) -> usize
     let cycle = d.cycle;
     let head = head_numbers(d);
     let arrays = put_arrays(regs, sram, into, at);
-    let next = put_numbers(&head, into, arrays);
+    let next = buffer::put(&head, into, arrays);
     put_load(load, cycle, into, next)
 }
 
@@ -276,7 +249,7 @@ fn put_rest(e: Events, eeprom: &[u8], id: &[u8], into: &mut [u64], at: usize) ->
 {
     let numbers = event_numbers(e);
     let next = put_memories(eeprom, id, into, at);
-    put_numbers(&numbers, into, next)
+    buffer::put(&numbers, into, next)
 }
 
 // All numbers of a chip, from the beginning of the list; how many they are. What a stage carries is a byte.
@@ -286,7 +259,7 @@ pub fn numbers_of(part: u64, d: Device, eeprom: &[u8], id: &[u8], into: &mut [u6
     ensures stage_bound { stage_value d.frame.stage < 256 }
 {
     let events = d.events;
-    let begun = put_number(part, into, 0);
+    let begun = buffer::put_one(part, into, 0);
     let next = put_record(d, into, begun);
     put_rest(events, eeprom, id, into, next)
 }

@@ -52,7 +52,7 @@ impl From<SaveError> for u8 {
 
     fn from(error: SaveError) -> u8 {
         match error {
-            SaveError::Refused(refusal) => u8::from(refusal),
+            SaveError::Refused(why) => u8::from(why),
             SaveError::NoRoom => 8,
         }
     }
@@ -100,7 +100,7 @@ pub fn save(
     let mut numbers = [0u64; table::NUMBERS];
     let count = chip::numbers_of(part, device, eeprom, id, &mut numbers);
     let mut text = [0u8; TEXT_ROOM];
-    let length = put::put_rows(chip::first(&numbers, count), &mut text);
+    let length = put::put_rows(bytes::first(&numbers, count), &mut text);
     if into.len() < length {
         return Err(SaveError::NoRoom);
     }
@@ -119,7 +119,7 @@ pub fn load(text: &[u8], eeprom: &mut [u8], id: &mut [u8]) -> Result<Loaded, Loa
     if place.stopped | (place.at < text.len()) {
         return Err(LoadError::BadLine(place.lines + 1));
     }
-    let list = chip::first(&numbers, read.count);
+    let list = bytes::first(&numbers, read.count);
     let part = list[0];
     if refusals::wrong_length(part, eeprom.len(), id.len()) {
         return Err(LoadError::WrongLength);

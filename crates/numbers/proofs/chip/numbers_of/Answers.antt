@@ -14,8 +14,8 @@ use Rattle.numbers.proofs.chip.numbers_of.Goals as goal
 room : {n : ℕ} {s t : List ℕ} → s ≡ t → length s ≤ n → 0 + length t ≤ n
 room {n} {s} {t} e h = subst (λ (k : ℕ). k ≤ n) (ap length e ∙ sym (zero-add (length t))) h
 
-pub put_number-begun-requires : goal.put_number-begun-requires
-put_number-begun-requires c =
+pub put_one-begun-requires : goal.put_one-begun-requires
+put_one-begun-requires c =
     let a = c.args in
     let p : List ℕ = a.part ∷ [] in
     let r = record_numbers a.d in
@@ -29,7 +29,7 @@ put_record-next-requires c =
     let p : List ℕ = a.part ∷ [] in
     let r = record_numbers a.d in
     let m = (a.eeprom.now ++ a.id.now) ++ event_numbers a.d.events in
-    room_then o p r c.put_number-begun.ensures (room_before 0 (p ++ r) m (room (sym (numbers_joined a.part a.d a.eeprom.now a.id.now)) c.requires))
+    room_then o p r c.put_one-begun.ensures (room_before 0 (p ++ r) m (room (sym (numbers_joined a.part a.d a.eeprom.now a.id.now)) c.requires))
 
 pub put_rest-requires : goal.put_rest-requires
 put_rest-requires c =
@@ -38,7 +38,7 @@ put_rest-requires c =
     let p : List ℕ = a.part ∷ [] in
     let r = record_numbers a.d in
     let m = (a.eeprom.now ++ a.id.now) ++ event_numbers a.d.events in
-    room_then o (p ++ r) m (put_then o p r c.put_number-begun.ensures c.put_record-next.ensures.result_after)
+    room_then o (p ++ r) m (put_then o p r c.put_one-begun.ensures c.put_record-next.ensures.result_after)
     (room (sym (numbers_joined a.part a.d a.eeprom.now a.id.now)) c.requires)
 
 pub returns : goal.returns
@@ -49,6 +49,6 @@ returns c =
     let r = record_numbers a.d in
     let m = (a.eeprom.now ++ a.id.now) ++ event_numbers a.d.events in
     record {
-      result_after = put_then o (p ++ r) m (put_then o p r c.put_number-begun.ensures c.put_record-next.ensures.result_after) c.put_rest.ensures ∙ ap (append o) (numbers_joined a.part a.d a.eeprom.now a.id.now);
+      result_after = put_then o (p ++ r) m (put_then o p r c.put_one-begun.ensures c.put_record-next.ensures.result_after) c.put_rest.ensures ∙ ap (append o) (numbers_joined a.part a.d a.eeprom.now a.id.now);
       stage_bound = c.put_record-next.ensures.stage_bound;
     }

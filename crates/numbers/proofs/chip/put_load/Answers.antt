@@ -15,8 +15,8 @@ put_bytes-next-requires c =
     room_before a.at a.load.bytes t.result
     (subst (λ (l : List ℕ). a.at + length (a.load.bytes ++ l) ≤ length a.into.now) (sym t.ensures) c.requires)
 
-pub put_numbers-requires : goal.put_numbers-requires
-put_numbers-requires c =
+pub put-requires : goal.put-requires
+put-requires c =
     let a = c.args in
     let o = buffer a.into.now a.at in
     let t = c.tail_numbers-tail in
@@ -29,4 +29,4 @@ returns c =
     let o = buffer a.into.now a.at in
     let t = c.tail_numbers-tail in
     put_then o a.load.bytes t.result c.put_bytes-next.ensures
-    c.put_numbers.ensures ∙ ap (λ (l : List ℕ). append o (a.load.bytes ++ l)) t.ensures
+    c.put.ensures ∙ ap (λ (l : List ℕ). append o (a.load.bytes ++ l)) t.ensures

@@ -18,8 +18,8 @@ put_arrays-arrays-requires c =
     room_before a.at r t.result
     (room_before a.at (r ++ t.result) b (subst (λ (l : List ℕ). a.at + length (r ++ l ++ b) ≤ length a.into.now) (sym t.ensures.value) c.requires))
 
-pub put_numbers-next-requires : goal.put_numbers-next-requires
-put_numbers-next-requires c =
+pub put-next-requires : goal.put-next-requires
+put-next-requires c =
     let a = c.args in
     let o = buffer a.into.now a.at in
     let t = c.head_numbers-head in
@@ -36,7 +36,7 @@ put_load-requires c =
     let r = a.d.regs ++ a.d.sram in
     let b = a.d.load.bytes ++ tail_numbers a.d.load a.d.cycle in
     room_then o (r ++ t.result) b
-    (put_then o r t.result c.put_arrays-arrays.ensures c.put_numbers-next.ensures)
+    (put_then o r t.result c.put_arrays-arrays.ensures c.put-next.ensures)
     (subst (λ (l : List ℕ). a.at + length (r ++ l ++ b) ≤ length a.into.now) (sym t.ensures.value) c.requires)
 
 pub returns : goal.returns
@@ -47,6 +47,6 @@ returns c =
     let r = a.d.regs ++ a.d.sram in
     let b = a.d.load.bytes ++ tail_numbers a.d.load a.d.cycle in
     record {
-      result_after = put_then o (r ++ t.result) b (put_then o r t.result c.put_arrays-arrays.ensures c.put_numbers-next.ensures) c.put_load.ensures ∙ ap (λ (l : List ℕ). append o (r ++ l ++ b)) t.ensures.value;
+      result_after = put_then o (r ++ t.result) b (put_then o r t.result c.put_arrays-arrays.ensures c.put-next.ensures) c.put_load.ensures ∙ ap (λ (l : List ℕ). append o (r ++ l ++ b)) t.ensures.value;
       stage_bound = t.ensures.stage_bound;
     }

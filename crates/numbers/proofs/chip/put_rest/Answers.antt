@@ -16,8 +16,8 @@ put_memories-next-requires c =
     room_before a.at m t.result
     (subst (λ (l : List ℕ). a.at + length (m ++ l) ≤ length a.into.now) (sym t.ensures) c.requires)
 
-pub put_numbers-requires : goal.put_numbers-requires
-put_numbers-requires c =
+pub put-requires : goal.put-requires
+put-requires c =
     let a = c.args in
     let m = a.eeprom.now ++ a.id.now in
     let o = buffer a.into.now a.at in
@@ -31,4 +31,4 @@ returns c =
     let m = a.eeprom.now ++ a.id.now in
     let o = buffer a.into.now a.at in
     let t = c.event_numbers-numbers in
-    put_then o m t.result c.put_memories-next.ensures c.put_numbers.ensures ∙ ap (λ (l : List ℕ). append o (m ++ l)) t.ensures
+    put_then o m t.result c.put_memories-next.ensures c.put.ensures ∙ ap (λ (l : List ℕ). append o (m ++ l)) t.ensures
