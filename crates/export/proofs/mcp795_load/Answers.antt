@@ -30,11 +30,11 @@ pub returns-in-Ok : goal.returns-in-Ok
 returns-in-Ok c =
     let a = c.args in
     let l = c.in-Ok.loaded in
-    load_done a.text.now (arrays a.state.now a.eeprom.now a.id.now) c.if-state-ne-STATE.false (loading 0 0 l.part (world l.device c.load.new.eeprom c.load.new.id)) (c.in-Ok.ensures 0 fresh) _ refl (c.copy_from_slice.ensures.after ∙ c.from.ensures)
+    load_done a.text.now (arrays a.state.now a.eeprom.now a.id.now) c.if-state-ne-STATE.false (loading 0 0 l.part (world l.device c.load.new.eeprom c.load.new.id)) (c.in-Ok.ensures 0 fresh) _ refl (c.copy_from_slice.ensures.after ∙ c.from-in-Ok.ensures)
 
 pub returns-in-Err : goal.returns-in-Err
 returns-in-Err c =
     let a = c.args in
     let e = c.in-Err.error in
-    (λ i. called ((c.from-in-Err.ensures ∙ c.from-2.ensures) i) (c.bad_line.ensures i ∷ []) (arrays a.state.now c.load.new.eeprom c.load.new.id))
+    (λ i. called ((c.from-in-Err-2.ensures ∙ c.from-in-Err.ensures) i) (c.bad_line.ensures i ∷ []) (arrays a.state.now c.load.new.eeprom c.load.new.id))
     ∙ load_refused a.text.now (arrays a.state.now a.eeprom.now a.id.now) c.if-state-ne-STATE.false (loading (load_number e) (load_line e) 0 (world fresh c.load.new.eeprom c.load.new.id)) (c.in-Err.ensures 0 fresh) (not_done e)

@@ -1,6 +1,6 @@
 -- `export::mcp795_new`: by the case that it is in.
 -- Assumes nothing.
-use Rattle.std.proofs.Common.{◌≢◌, refl, sym, ap, ◌∙◌, ℕ, []}
+use Rattle.std.proofs.Common.{refl, ap, ◌∙◌, ℕ, []}
 use Rattle.refusals.proofs.NumberLaws.{refusal_not_zero}
 use Rattle.arrays.specs.Arrays.{arrays}
 use Rattle.calls.specs.Calls.{called}
