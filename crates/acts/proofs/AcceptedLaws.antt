@@ -62,3 +62,6 @@ suits part act n d ee id e =
         id_page = rw a.setup.ids (page_fits _ id_size r.cycle.place.id refl);
       };
     }
+
+-- what the code of an accepted act asks and leans on
+pub ruleset accepted_laws = (suits, few_bits, accepted_byte, accepted_end, accepted_cut, accepted_set)

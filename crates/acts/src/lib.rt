@@ -34,6 +34,7 @@ fn silent(count: u64, device: Device) -> Answer
 }
 
 // A wait: the record's ticks, and at most one page stored after them.
+#[tactic(auto, using(ticks::proofs::WaitLaws::wait_settled))]
 fn wait_act(boots: bool, n: u64, d: Device, eeprom: &mut [u8], id: &mut [u8]) -> Answer
     requires { PageInside d.cycle.target eeprom.old id.old }
     ensures { outcome_done result eeprom.new id.new ≡ waited_outcome (waited boots n (world d eeprom.old id.old)) }
@@ -48,6 +49,7 @@ fn wait_act(boots: bool, n: u64, d: Device, eeprom: &mut [u8], id: &mut [u8]) ->
 }
 
 // A cut: what the mask lets through is stored, the rest is gone.
+#[tactic(auto, unfolding(power::specs::Power::cut_world))]
 fn cut_act(mask: u8, d: Device, eeprom: &mut [u8], id: &mut [u8]) -> Answer
     requires { PageInside d.cycle.target eeprom.old id.old }
     ensures { outcome_done result eeprom.new id.new ≡ outcome 0 None (cut_count mask d) (cut_world mask (world d eeprom.old id.old)) }
@@ -60,6 +62,7 @@ fn cut_act(mask: u8, d: Device, eeprom: &mut [u8], id: &mut [u8]) -> Answer
 }
 
 // An act that the table does not refuse.
+#[tactic(auto, using(crate::proofs::AcceptedLaws::accepted_laws))]
 fn accepted_act(
     part: u64,
     act: Act,
@@ -102,6 +105,7 @@ fn accepted_act(
 }
 
 // One act on a part, a record and memories that no row of the table refuses. A refused act changes nothing.
+#[tactic(auto, using(crate::proofs::OutcomeLaws::refused_by_act))]
 pub fn perform_in_range(
     part: u64,
     act: Act,
@@ -118,6 +122,8 @@ pub fn perform_in_range(
 }
 
 // One act. Part and argument are any numbers; a refused act changes nothing.
+// Part, record and memories stay parameters: a struct of lent memories would have to promise that it lends the same ones (D230).
+#[tactic(auto, using(crate::proofs::OutcomeLaws::refused_by_setup))]
 pub fn perform(
     part: u64,
     act: Act,

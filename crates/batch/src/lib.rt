@@ -20,6 +20,8 @@ fn ticks_of(act: Act, count: u64) -> u64
     if matches!(act, Act::Wait) { count } else { 0 }
 }
 
+// Four slices stay parameters, here and below: C hands each by itself, and a struct of lent slices would have to promise that it lends the same ones (D230).
+
 // The acts on a chip with its memories, up to the first for which a slice has no room or whose code names no act. The record is in range, and stays
 // so: no act tests that again.
 fn perform_all(
