@@ -8,7 +8,11 @@ use Prim.Native.Nat.{ℕ}
 use native.Mathlib.Omega.{arith}
 use lib.ListN.{length, get_or}
 use Rattle.std.specs.Prelude.{Result, Ok, Err}
+use Rattle.std.specs.Result.{is_ok}
+use Rattle.base.specs.Words.{pick}
 use Rattle.base.proofs.Tests.{yes, no}
+use Rattle.record.specs.Part.{is_part}
+use Rattle.refusals.specs.Refusal.{number_of, wrong_length, first_refusal}
 use Rattle.record.specs.declared.Device.{Device}
 use Rattle.record.specs.World.{Bytes}
 use Rattle.refusals.specs.declared.Refusal.{Refusal}
@@ -17,7 +21,7 @@ use Rattle.form.specs.Chip.{device_of}
 use Rattle.form.specs.State.{array_numbers, is_state, state_of}
 use Rattle.form.proofs.StateLaws.{low_at, array_again}
 use Rattle.arrays.specs.declared.Chip.{Chip}
-use Rattle.arrays.specs.Arrays.{chip_in, chip_read}
+use Rattle.arrays.specs.Arrays.{part_of, chip_in, chip_read, arrays_refusal}
 use Rattle.arrays.specs.Tests.{clock_bad, frame_bad, events_bad}
 use Rattle.arrays.proofs.ArrayLaws.{state_long}
 use Rattle.arrays.proofs.TestLaws.{state_told, state_short}
@@ -56,3 +60,19 @@ again_in bs ys p w t e =
     (λ i. state_of (get_or (p i) 0 0) ((e ∙ ap (λ (x : List ℕ). device_of (array_numbers x)) p) i))
     ∙ ap (λ (n : ℕ). state_of n (device_of (array_numbers bs))) (sym (low_at bs l 0 (omega arith)))
     ∙ array_again bs l w u
+
+-- What is read where nothing is refused has the number of those arrays.
+pub read_told :
+    (bs : List ℕ) (r : Result Chip Refusal) (ok : Bool) (part ee id : ℕ) → r ≡ chip_read bs → ok ≡ is_ok r → part ≡ part_of bs
+    → 0 ≡ arrays_refusal part ee id ok → number_of r ≡ arrays_refusal (part_of bs) ee id (is_state bs)
+read_told bs r ok part ee id e o p z =
+    ap number_of e
+    ∙ by_case (is_state bs) (not (is_part (part_of bs))) (wrong_length (part_of bs) ee id) (z ∙ (λ i. arrays_refusal (p i) ee id ((o ∙ ap is_ok e) i)))
+  where
+    by_case :
+        (t p w : Bool) → 0 ≡ first_refusal p w (not (is_ok (pick t (Ok (chip_in bs)) (Err Range)))) false false 0
+        → number_of (pick t (Ok (chip_in bs)) (Err Range)) ≡ first_refusal p w (not t) false false 0
+    by_case true p w h = h
+    by_case false true w h = omega (arith, h)
+    by_case false false true h = omega (arith, h)
+    by_case false false false h = refl
