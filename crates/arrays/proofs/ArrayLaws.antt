@@ -2,13 +2,12 @@
 -- Assumes nothing.
 use mathlib.Core.Path.{◌≡◌, refl, sym, ap, ◌∙◌}
 use mathlib.Core.Bool.{true}
-use mathlib.Core.List.{List, [], ◌∷◌, ◌++◌, append-nil, append_assoc}
-use Prim.Native.Nat.{ℕ, ◌+◌, ◌<◌, ◌≤◌}
+use mathlib.Core.List.{List, [], ◌∷◌, ◌++◌, append_assoc}
+use Prim.Native.Nat.{ℕ, ◌+◌, ◌<◌}
 use native.Mathlib.Omega.{arith}
 use borrow.Author.Tests.{eqb-true}
 use lib.Dec.{eqb}
-use lib.ListN.{length, take, drop, get_or, length-append, get_or-eq_default}
-use lib.Seq.{drop-length}
+use lib.ListN.{length, take, drop, get_or, get_or-eq_default}
 use Rattle.base.proofs.Tests.{both_left, both_right}
 use Rattle.events.specs.declared.Events.{Events}
 use Rattle.record.specs.declared.Counters.{Counters}
@@ -55,12 +54,6 @@ module _ (bs : List ℕ) (t : is_state bs ≡ true) where
 
   pub startup_fits : count_at bs 100 < 256
   startup_fits = within (sym (count_at_lem bs l 1)) fit.startup
-
-  pub watchdog_fits : count_at bs 103 < 4294967296
-  watchdog_fits = within (sym (count_at_lem bs l 2)) fit.watchdog
-
-  pub delay_fits : count_at bs 106 < 4294967296
-  delay_fits = within (sym (count_at_lem bs l 3)) fit.delay
 
   pub pulse_fits : count_at bs 109 < 65536
   pulse_fits = within (sym (count_at_lem bs l 4)) fit.pulse

@@ -3,7 +3,7 @@
 use mathlib.Core.Path.{◌≡◌, refl, sym, ap, ◌∙◌}
 use mathlib.Core.Logic.{◌≢◌, ⊎_elim}
 use mathlib.Core.Bool.{Bool, true, false, not, ◌&&◌, ◌||◌}
-use mathlib.Core.List.{List, [], ◌∷◌}
+use mathlib.Core.List.{List}
 use Prim.Native.Nat.{ℕ, zero, suc, ◌+◌, ◌<◌, ◌≤◌, min}
 use native.Mathlib.Omega.{arith}
 use native.Mathlib.Numerals.{add-one}
@@ -16,19 +16,19 @@ use Rattle.std.specs.List.{fold, zip}
 use Rattle.std.proofs.lemmas.List.{take_all}
 use Rattle.std.proofs.lemmas.List.Sums.{fold_more}
 use Rattle.std.proofs.lemmas.Slice.Zip.{length-zip, get_or-zip}
-use Rattle.base.specs.Words.{bit, every, any_of}
+use Rattle.base.specs.Words.{bit, every}
 use Rattle.base.proofs.Tests.{by_cases, true_false, either, neither_left, neither_right, none_holds, some_holds}
 use Rattle.base.proofs.Every.{every_at, every_all, same_below}
 use Rattle.record.specs.Numbers.{stage_of}
 use Rattle.record.specs.Part.{is_part, size_of, boots_of}
-use Rattle.record.specs.Registers.{writable, kept, power_down_at, event_at, period_of, divider_ticks, long_pulse, delay_ticks}
+use Rattle.record.specs.Registers.{writable, kept, power_down_at, event_at, period_of}
 use Rattle.record.specs.Stages.{foreign_to_wip}
 use Rattle.record.specs.World.{Bytes}
 use Rattle.record.proofs.StampLaws.{same_masks, stamp_mask}
 use Rattle.form.specs.Table.{part_in, register_in, startup_by, startup_limit, watchdog_limit, mark_by, mark_limit, kind_by, kind_limit, case_good, value_limit, target_limit, left_by, left_limit, edges_by, since_by, debounce_by}
 use Rattle.form.specs.Facts.{RecordFacts, EventFacts}
 use Rattle.form.specs.Chip.{is_record}
-use Rattle.form.specs.State.{count_at, array_numbers, state_bytes, is_state}
+use Rattle.form.specs.State.{array_numbers, state_bytes, is_state}
 use Rattle.form.proofs.FactLaws.{facts_recorded, recorded_facts}
 use Rattle.form.proofs.StateLaws.{low_at, count_at_lem, high_at, event_at_lem, numbers_long}
 use Rattle.numbers.proofs.TableLaws.{left_told}

@@ -1,7 +1,7 @@
 #![tactic(auto)]
 
 // The arrays of a caller in another language: a state array judged, read and written; the numbers of an answer.
-ghost use Rattle.std.specs.Prelude.{◌≡◌, true, not, [], ◌∷◌, ◌++◌, ◌+◌, ◌%◌, ◌≤◌, length, take, drop, IfOk};
+ghost use Rattle.std.specs.Prelude.{◌≡◌, true, ◌++◌, ◌+◌, ◌≤◌, length, take, drop, IfOk};
 ghost use Rattle.refusals.specs.Refusal.{number_of};
 ghost use Rattle.form.specs.Chip.{device_of, tail_numbers};
 ghost use Rattle.form.specs.State.{count_at, count_bytes, counts_bytes, frame_bytes, event_bytes, array_numbers, is_state, state_of};

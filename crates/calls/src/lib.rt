@@ -8,6 +8,7 @@ ghost use Rattle.calls.specs.Calls.{called, acts};
 use arrays::{ANSWER, Chip, STATE};
 
 // One act by its number, with its argument. The answer: the refusal number, whether SO drives, what it drives, the count, both levels.
+// Kept with its numbers: C reads them.
 pub fn mcp795_act(
     state: &mut [u8],
     eeprom: &mut [u8],

@@ -1,6 +1,6 @@
 -- The chip of a state array: by its length, else its tests (`judged`).
 -- Assumes nothing.
-use Rattle.std.proofs.Common.{rules, ◌≡◌, ◌≢◌, ◌∙◌, length}
+use Rattle.std.proofs.Common.{rules, ◌≡◌, ◌≢◌, length}
 use Rattle.record.specs.World.{Bytes}
 use Rattle.arrays.proofs.ChipLaws.{good, short, bad, some_in, again_in}
 use Rattle.arrays.proofs.ChipTryFromRefSliceU8.try_from.Goals as goal
