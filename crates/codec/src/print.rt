@@ -1,4 +1,5 @@
-// An answer's line: `no=`, `out=`, `irq=` and `wdo=`, each with what it shows.
+// An answer's line: `no=`, `out=`, `irq=` and `wdo=`, each with what it shows. The number stays one, since the line shows it (D227); buffer and place stay two
+// parameters (D230).
 ghost use Rattle.std.specs.Prelude.{◌≡◌, ◌++◌, ◌+◌, ◌≤◌, length};
 ghost use Rattle.text.specs.Buffer.{buffer, append};
 ghost use Rattle.lines.specs.Print.{shows_count, out_of, out_text, answer_line, out_room, answer_room};

@@ -31,7 +31,7 @@ pub enum Fault {
 }
 
 impl Fault {
-    // T12 to T15. The number of the answer.
+    // T12 to T15. The number of the answer. No From, since a fault has a second number, its column.
     pub fn number(self) -> u8
         ensures { result ≡ fault_number self }
     {

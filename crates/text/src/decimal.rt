@@ -1,4 +1,4 @@
-// Decimals, read and put.
+// Decimals, read and put. Buffer and place stay two parameters (D230).
 ghost use Rattle.std.specs.Prelude.{◌≡◌, ◌+◌, ◌≤◌, length, take};
 ghost use Rattle.text.specs.Buffer.{buffer, append};
 ghost use Rattle.text.specs.Decimal.{needless_zero, digit_value, value_of, read_limit, decimal_text};
