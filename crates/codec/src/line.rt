@@ -27,6 +27,7 @@ struct Pieces<'a> {
 }
 
 impl<'a> Pieces<'a> {
+    #[tactic(auto, unfolding(lines::specs::Line::name_size, lines::specs::Line::digits_text))]
     fn cut(line: &'a [u8]) -> Pieces<'a>
         requires { length line.now ≤ line_limit }
         ensures { result.line.now ≡ line.now }
@@ -44,6 +45,7 @@ impl<'a> Pieces<'a> {
         }
     }
 
+    #[tactic(auto, using(lines::proofs::LineLaws::name_length), unfolding(lines::specs::Line::in_form))]
     fn in_form(&self) -> bool
         ensures { result ≡ in_form self.now.line.now }
     {
@@ -58,6 +60,7 @@ impl<'a> Pieces<'a> {
     }
 
     // T13. How far a line goes along with the form.
+    #[tactic(auto, using(lines::proofs::LineLaws::name_length, lines::proofs::LineLaws::reach_op, lines::proofs::LineLaws::reach_name, lines::proofs::LineLaws::reach_arg, lines::proofs::LineLaws::reach_digits, lines::proofs::LineLaws::size_within, lines::proofs::LineLaws::arg_within, lines::proofs::LineLaws::run_within))]
     fn form_reach(&self) -> usize
         ensures { result ≡ form_reach self.now.line.now }
     {
@@ -77,6 +80,7 @@ impl<'a> Pieces<'a> {
     }
 
     // T15. The column of the first digit where it is a needless zero, else of the first too many.
+    #[tactic(auto, using(lines::proofs::LineLaws::name_length), unfolding(lines::specs::Line::number_column))]
     fn number_column(&self) -> usize
         ensures { result ≡ number_column self.now.line.now }
     {
@@ -124,6 +128,7 @@ fn bad_digits(s: &[u8]) -> bool
 }
 
 // T16. What a line asks for: the first of its faults, else what its name and its number are.
+#[tactic(auto, using(lines::proofs::LineLaws::long_asks, lines::proofs::LineLaws::form_asks, lines::proofs::LineLaws::name_asks, lines::proofs::LineLaws::number_asks, lines::proofs::LineLaws::all_asks, lines::proofs::LineLaws::few_digits, lines::proofs::FormLaws::reach_longest))]
 pub fn request(line: &[u8]) -> Result<Request, Fault>
     ensures { result ≡ request_of line.now }
 {

@@ -9,6 +9,7 @@ pub fn room(n: usize, at: usize) -> usize
     n.saturating_sub(at)
 }
 
+#[tactic(auto, unfolding(crate::specs::Buffer::append))]
 pub fn put_one<T: Copy>(item: T, into: &mut [T], at: usize) -> usize
     requires { at + 1 ≤ length into.old }
     ensures { buffer into.new result ≡ append (buffer into.old at) (item ∷ []) }
@@ -17,6 +18,7 @@ pub fn put_one<T: Copy>(item: T, into: &mut [T], at: usize) -> usize
     at + 1
 }
 
+#[tactic(auto, using(crate::proofs::BufferLaws::put_between))]
 pub fn put<T: Copy>(items: &[T], into: &mut [T], at: usize) -> usize
     requires { at + length items.now ≤ length into.old }
     ensures { buffer into.new result ≡ append (buffer into.old at) items.now }

@@ -25,6 +25,7 @@ pub fn agreement(word: &[u8], s: &[u8]) -> usize
     word.iter().zip(s).take_while(|(w, b)| w == b).count()
 }
 
+#[tactic(auto, using(crate::proofs::BytesLaws::same_word))]
 pub fn is_word(word: &[u8], s: &[u8]) -> bool
     ensures { result ≡ is_word word.now s.now }
 {

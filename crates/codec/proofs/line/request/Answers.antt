@@ -1,4 +1,4 @@
--- `codec::line::request`: the first of its faults, or what name and number ask for.
+-- `codec::line::request`: a line without a fault asks for what its name and number ask for.
 -- Assumes nothing.
 use native.Mathlib.Omega.{arith}
 use mathlib.Core.Path.{◌≡◌, sym, ap, ◌∙◌}
@@ -6,15 +6,12 @@ use mathlib.Core.Bool.{false}
 use mathlib.Core.List.{List}
 use Prim.Native.Nat.{ℕ, ◌≤◌}
 use lib.ListN.{length, take}
-use borrow.Author.Tests.{lt-ltb, le-ltb}
-use Rattle.std.specs.Prelude.{Ok, Err}
-use Rattle.std.proofs.Common.{rules}
+use borrow.Author.Tests.{le-ltb}
+use Rattle.std.specs.Prelude.{Ok}
 use Rattle.text.specs.Decimal.{value_of, read_limit}
-use Rattle.lines.specs.declared.Fault.TheVariants.{UnknownName, BadDigits}
-use Rattle.lines.specs.Line.{line_limit, too_long, in_form, form_reach, name_text, name_of, digits_text, bad_digits, number_column}
+use Rattle.lines.specs.Line.{line_limit, too_long, in_form, name_text, name_of, digits_text, bad_digits}
 use Rattle.lines.specs.Request.{asked_by, unknown_name}
-use Rattle.lines.proofs.LineLaws.{long_asks, form_asks, name_asks, number_asks, all_asks, few_digits}
-use Rattle.lines.proofs.FormLaws.{reach_longest}
+use Rattle.lines.proofs.LineLaws.{all_asks, few_digits}
 use Rattle.codec.proofs.line.request.Goals as goal
 
 -- what was answered of the pieces' line is so of the line
@@ -25,45 +22,8 @@ of_line f e k h = ap f (sym e) ∙ sym k ∙ h
 of_piece : {A : Type 0} (f : List ℕ → A) (cut : List ℕ → List ℕ) {p q l : List ℕ} {r x : A} → q ≡ l → p ≡ cut q → r ≡ f p → r ≡ x → f (cut l) ≡ x
 of_piece f cut e k h g = ap f (ap cut (sym e) ∙ sym k) ∙ sym h ∙ g
 
--- a line that is not too long
 short : (l : List ℕ) → length l ≤ line_limit → too_long l ≡ false
 short l h = le-ltb line_limit (length l) (omega arith)
-
-reach_short : {r : ℕ} {q : List ℕ} (l : List ℕ) → q ≡ l → r ≡ form_reach q → length l ≤ line_limit → r ≤ line_limit
-reach_short l e k h = omega (arith, ap form_reach e, k, (reach_longest l).within)
-
-pub returns-then-line-gt-LINE_LIMIT : goal.returns-then-line-gt-LINE_LIMIT
-returns-then-line-gt-LINE_LIMIT c = sym (long_asks _ (lt-ltb line_limit _ c.if-line-gt-LINE_LIMIT.true))
-
-pub overflow_add-result : goal.overflow_add-result
-overflow_add-result c =
-    omega (arith, reach_short c.args.line.now c.cut-pieces.ensures c.form_reach.ensures c.if-line-gt-LINE_LIMIT.false)
-
-pub returns-then-not-in_form : goal.returns-then-not-in_form
-returns-then-not-in_form c =
-    let l = c.args.line.now in
-    let e = c.cut-pieces.ensures in
-    form_asks l _ (short l c.if-line-gt-LINE_LIMIT.false) (of_line in_form e c.in_form.ensures c.if-not-in_form.true)
-    (omega (arith, c.form_reach.ensures, ap form_reach e))
-
-pub returns-in_err-name : goal.returns-in_err-name
-returns-in_err-name c =
-    let l = c.args.line.now in
-    let e = c.cut-pieces.ensures in
-    let r : c.from_residual.result ≡ Err UnknownName = search rules in
-    r
-    ∙ sym (name_asks _ (short l c.if-line-gt-LINE_LIMIT.false) (of_line in_form e c.in_form.ensures c.if-not-in_form.false)
-    (ap unknown_name (of_piece name_of name_text e c.cut-pieces.result.name_cut c.name_of.ensures c.in_err-name.ensures.ok_part)))
-
-pub returns-then-bad_digits : goal.returns-then-bad_digits
-returns-then-bad_digits c =
-    let l = c.args.line.now in
-    let p = c.cut-pieces.result in
-    let e = c.cut-pieces.ensures in
-    ap (λ (n : ℕ). Err (BadDigits n)) (c.number_column.ensures ∙ ap number_column e)
-    ∙ sym (number_asks _ (short l c.if-line-gt-LINE_LIMIT.false) (of_line in_form e c.in_form.ensures c.if-not-in_form.false)
-    (ap unknown_name (of_piece name_of name_text e p.name_cut c.name_of.ensures c.in_ok-name.ensures.ok_part))
-    (of_piece bad_digits digits_text e p.digits_cut c.bad_digits.ensures c.if-bad_digits.true))
 
 pub returns : goal.returns
 returns c =
