@@ -12,11 +12,15 @@ ghost use Rattle.answers.specs.Ready.{ready};
 use lines::Request;
 pub use progress::Progress;
 use record::{Act, Device};
+use refusals::Refusal;
 
 // The bytes of the largest EEPROM, and those of the ID.
 pub const EEPROM_ROOM: usize = 256;
 
 pub const ID_SIZE: usize = record::part::ID_SIZE as usize;
+
+// T18. The number of a line that names an act where there is no part yet, or a part where there is one; no byte of it is to blame.
+const MISPLACED: u8 = 74;
 
 // A tape may go on with this part and record: there is no part, or one of the four with a record in range.
 #[tactic(auto, unfolding(crate::specs::Ready::ready))]
@@ -27,6 +31,7 @@ pub fn is_ready(part: u64, d: Device) -> bool
     (part == 0) | refusals::setup_refusal(part, d, size, ID_SIZE).is_ok()
 }
 
+// The three that follow ask for room for an answer: a buffer is lent in any length, and its place moves on, so no type says it (D230).
 // T6, T7. A line `op=part`: the first of a part that there is makes a fresh chip.
 fn part_line(
     arg: u64,
@@ -41,10 +46,10 @@ fn part_line(
         (part_answer arg (setup_in (held_by p eeprom.old id.old))) }
 {
     if p.part != 0 {
-        return p.told(74, Some(0), into);
+        return p.told(MISPLACED, Some(0), into);
     }
     if !record::part::is_part(arg) {
-        return p.told(3, None, into);
+        return p.told(Refusal::Argument as u8, None, into);
     }
     let size = record::part::size(arg) as usize;
     acts::page::erase(&mut eeprom[..size]);
@@ -72,7 +77,7 @@ fn act_line(
         (act_answer act arg (setup_in (held_by p eeprom.old id.old))) }
 {
     if p.part == 0 {
-        return p.told(74, Some(0), into);
+        return p.told(MISPLACED, Some(0), into);
     }
     let size = record::part::size(p.part) as usize;
     match acts::perform_in_range(p.part, act, arg, p.device, &mut eeprom[..size], id) {

@@ -152,6 +152,7 @@ fn finish_line(
     feed_of(ended, 0, 0)
 }
 
+// The door stands in both calls: a function that hands out the three references would have to promise of each that it is still the one lent (D230).
 // The answers to a chunk, put into a buffer from a place on. It stops before a newline whose answer may not have room, and answers how many
 // bytes it took. What is lent and not used stays as it was. Where it is no tape, nothing is taken or changed.
 pub fn feed(
