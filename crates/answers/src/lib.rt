@@ -95,6 +95,7 @@ fn act_line(
 }
 
 // A line's answer.
+#[tactic(auto, unfolding(crate::specs::Answer::line_answer))]
 pub fn answer_line(
     line: &[u8],
     p: Progress,

@@ -15,7 +15,7 @@ use Rattle.std.specs.Prelude.{Result}
 use Rattle.std.specs.List.{position}
 use lib.ListN.{length, take, drop, get_or, length-append, length-take, length-drop, drop_of_length-le, take-append-drop}
 use lib.Seq.{take_all, drop-cons, take-append-le, take-append-add, take-take, length-take-le, append_snoc, sets-eq}
-use Rattle.base.specs.Words.{pick, over}
+use Rattle.base.specs.Words.{over}
 use Rattle.base.proofs.OverLaws.{over_start}
 use Rattle.base.proofs.Tests.{by_cases, yes, no, both_left, both_right, both_true}
 use Rattle.record.specs.Part.{id_size}

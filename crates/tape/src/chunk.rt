@@ -34,6 +34,7 @@ pub fn start() -> Tape
 
 // A tape that begins with a chip that is there: its part and record, and the memories that are lent to each call. A part that is none, a record out
 // of range and memories of other sizes than a tape is lent are no chip: the tape then begins without a part.
+#[tactic(auto, unfolding(crate::specs::Tape::resumes))]
 pub fn resume(part: u64, device: Device, eeprom: &[u8], id: &[u8]) -> Tape
     ensures value { result ≡ resumed_tape part device (length eeprom.now) (length id.now) }
     ensures typed { Typed device eeprom.now id.now }
@@ -61,6 +62,7 @@ fn add_to_head(piece: &[u8], line: &mut [u8; HEAD_LIMIT], begun: usize) -> usize
 
 // The answer to a line: its head, if it has one, and its last piece. The two are put together in an array of its own, so that the lent
 // bytes of the line stay as they are.
+#[tactic(auto, using(crate::proofs::TapeLaws::head_answers))]
 fn end_line(
     piece: &[u8],
     begun: usize,
@@ -155,6 +157,7 @@ fn finish_line(
 // The door stands in both calls: a function that hands out the three references would have to promise of each that it is still the one lent (D230).
 // The answers to a chunk, put into a buffer from a place on. It stops before a newline whose answer may not have room, and answers how many
 // bytes it took. What is lent and not used stays as it was. Where it is no tape, nothing is taken or changed.
+#[tactic(auto, unfolding(crate::specs::Tape::feed_into, crate::specs::Tape::is_tape, crate::specs::Tape::buffers_fit))]
 pub fn feed(
     chunk: &[u8],
     tape: Tape,
@@ -187,6 +190,7 @@ pub fn feed(
 }
 
 // The answer to a last line that has no newline. Where it is no tape or the answer has no room, nothing is changed.
+#[tactic(auto, unfolding(crate::specs::Tape::finish_into, crate::specs::Tape::is_tape, crate::specs::Tape::buffers_fit))]
 pub fn finish(
     tape: Tape,
     line: &mut [u8],

@@ -1,4 +1,4 @@
--- `tape::chunk::finish`: what is no tape, an end, and no room for its answer.
+-- `tape::chunk::finish`: what is no tape by its last length, and an end.
 -- Assumes nothing.
 use mathlib.Core.Path.{◌≡◌, refl, sym, ap, ◌∙◌}
 use mathlib.Core.Bool.{Bool, false, ◌&&◌}
@@ -15,18 +15,6 @@ use Rattle.tape.proofs.chunk.finish.Goals as goal
 unfinished : (l : Loan) (o : Buffer) → is_tape l ≡ false → unchanged l o ≡ finish_into l o
 unfolding finish_into
 unfinished l o f = no _ _ (ap (λ (t : Bool). t && leb answer_room (room_in o)) f)
-
-pub returns-in_default : goal.returns-in_default
-returns-in_default c =
-    let a = c.args in
-    unfinished (loan a.tape a.line.now a.eeprom.now a.id.now) (buffer a.into.now a.at) (no_tape _ (λ f. c.in_default.ensures.cases f.line))
-
-pub returns-in_default-as_mut_array : goal.returns-in_default-as_mut_array
-returns-in_default-as_mut_array c =
-    let a = c.args in
-    let o = buffer a.into.now a.at in
-    ap (λ (x : Loan). unchanged x o) (loan_same a.tape c.in-Some.ensures.cases.same refl refl)
-    ∙ unfinished _ o (no_tape _ (λ f. c.in_default-as_mut_array.ensures.cases f.eeprom))
 
 pub returns-in_default-as_mut_array-2 : goal.returns-in_default-as_mut_array-2
 returns-in_default-as_mut_array-2 c =
@@ -51,15 +39,3 @@ returns-then-tape-is_ready c =
     c.finish_line.ensures
     ∙ ap (λ (x : Loan). gives x (put_into o 0 (finished (state_in x)))) (loan_same a.tape line.same ee.same id.same)
     ∙ yes _ _ (tested l o (tape_judged l line.long ee.long id.long c.is_ready.ensures) c.room-has_room.ensures ∙ c.if-tape-is_ready.true)
-
-pub returns : goal.returns
-unfolding finish_into
-returns c =
-    let a = c.args in
-    let o = buffer a.into.now a.at in
-    let l = loan a.tape a.line.now a.eeprom.now a.id.now in
-    let line = c.in-Some.ensures.cases in
-    let ee = c.in-Some-as_mut_array.ensures.cases in
-    let id = c.in-Some-as_mut_array-2.ensures.cases in
-    ap (λ (x : Loan). unchanged x o) (loan_same a.tape line.same ee.same id.same)
-    ∙ no _ _ (tested l o (tape_judged l line.long ee.long id.long c.is_ready.ensures) c.room-has_room.ensures ∙ c.if-tape-is_ready.false)
