@@ -42,6 +42,8 @@ use Rattle.form.specs.Save.{save_refusal, not_saved, written, saves, loading, lo
 use Rattle.form.proofs.FactLaws.{good_facts}
 use Rattle.form.proofs.SavedLaws.{loads_text}
 use Rattle.numbers.specs.Tables.{number_limit}
+use Rattle.numbers.proofs.ChipLaws.{reach}
+use Rattle.record.specs.Fresh.{fresh}
 use Rattle.saved.specs.Reading.{reading, Got, complete}
 use Rattle.saved.specs.Place.{TextRead}
 use Rattle.saved.proofs.RowLaws.{text_reads}
@@ -267,3 +269,37 @@ module _ (text : List ℕ) (part : ℕ) (w : World) (m : List ℕ) (at lines cou
           (world (dx z) ((ex ∙ ap (λ (n : ℕ). take n (drop 123 ns)) eeprom_long) z)
           ((ix ∙ (λ y. take (id_long y) (drop (123 + (q ∙ eeprom_long) y) ns))) z)))
           ∙ sym (ap (λ (l : Loaded (List ℕ)). load_answer l part w) whole ∙ sym (no (loading 4 0 part w) (loading 0 0 (part_in ns) (world_of ns)) e))
+
+-- What code knows of a list that a text gave, with the memories that are lent.
+pub record ListRead (text l ee id : List ℕ) : Type 0 where
+  pub some : 0 < length l
+  pub facts : RecordFacts l
+  pub events : (k : ℕ) → k ≡ chip_events l → EventFacts k l × (k + 5 ≤ length l)
+  pub misfit : wrong_length (part_in l) (length ee) (length id) ≡ true → (part : ℕ) (d : Device) → loading 4 0 part (world d ee id) ≡ loads text part (world d ee id)
+  pub eeprom : wrong_length (part_in l) (length ee) (length id) ≡ false → (123 + length ee ≤ length l) × BytesFrom l 123 (length ee)
+  pub ids :
+      wrong_length (part_in l) (length ee) (length id) ≡ false → (k : ℕ) → k ≡ length ee
+      → (123 + k + length id ≤ length l) × BytesFrom l (123 + k) (length id)
+  pub done :
+      wrong_length (part_in l) (length ee) (length id) ≡ false → (ee' id' : List ℕ) (d' : Device) (k : ℕ) → k ≡ length ee → ee' ≡ take (length ee) (drop 123 l)
+      → id' ≡ take (length id) (drop (123 + k) l) → d' ≡ device_from (chip_events l) l → (part : ℕ) (d : Device)
+      → loading 0 0 (part_in l) (world d' ee' id') ≡ loads text part (world d ee id)
+
+pub list_read :
+    (text m : List ℕ) (at lines count : ℕ) (stopped : Bool) → TextRead text m (reading (drop at text) lines stopped) count → (stopped || ltb at (length text)) ≡ false
+    → (l ee id : List ℕ) → l ≡ take count m → ListRead text l ee id
+list_read text m at lines count stopped t h l ee id f =
+    let w = world fresh ee id in
+    subst (λ (y : List ℕ). ListRead text y ee id) (sym f)
+    (record {
+      some = past (reach _ (record_read text 0 w m at lines count stopped t h));
+      facts = record_read text 0 w m at lines count stopped t h;
+      events = events_read text 0 w m at lines count stopped t h;
+      misfit = λ e part d. load_misfit text part (world d ee id) m at lines count stopped t h e;
+      eeprom = λ e. eeprom_there text 0 w m at lines count stopped t h e;
+      ids = λ e. id_there text 0 w m at lines count stopped t h e;
+      done = λ e a b c k q x y z part d. load_done text part (world d ee id) m at lines count stopped t h e a b c k q x y z;
+    })
+  where
+    past : {n : ℕ} → 123 ≤ n → 0 < n
+    past p = omega (arith, p)

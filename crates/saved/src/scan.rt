@@ -23,11 +23,7 @@ pub fn past_word(text: &[u8], p: Place, word: &[u8]) -> Place
     let n = bytes::agreement(word, bytes::rest(text, p.at));
     let whole = n == word.len();
     if p.stopped | !whole {
-        return Place {
-            at: p.at,
-            lines: p.lines,
-            stopped: true,
-        };
+        return Place { stopped: true, ..p };
     }
     Place {
         at: p.at + n,
@@ -53,11 +49,7 @@ pub fn number_at(text: &[u8], p: Place) -> Found
     let digits = bytes::first(tail, n);
     let needless = decimal::needless_zero(digits);
     if p.stopped | (n == 0) | needless | (DIGIT_LIMIT < n) {
-        let place = Place {
-            at: p.at,
-            lines: p.lines,
-            stopped: true,
-        };
+        let place = Place { stopped: true, ..p };
         return Found { value: 0, place };
     }
     let value = decimal::value_of(digits);
@@ -75,11 +67,7 @@ pub fn settle(p: Place, good: bool) -> Place
     ensures { ((text : List ℕ) → reading_at text result ≡ settled good (reading_at text p)) × (result.lines ≤ p.lines + 1) }
 {
     if p.stopped | !good {
-        return Place {
-            at: p.at,
-            lines: p.lines,
-            stopped: true,
-        };
+        return Place { stopped: true, ..p };
     }
     Place {
         at: p.at,
