@@ -12,7 +12,9 @@ use events::Events;
 use numbers::table;
 use record::numbered::Numbered;
 use record::registers::POWER_DOWN;
-use record::{Counters, Cycle, Device, Frame, Guard, Load, Lock, Protection, Stage, Target, part, registers};
+use record::{
+    Counters, Cycle, Device, Frame, Guard, Load, Lock, Protection, Stage, Target, part, registers,
+};
 use refusals::Refusal;
 
 // Bytes of a state array, numbers of an answer.

@@ -50,6 +50,7 @@ fn is_allowed(top: EepromAddress, g: Guard, stage: Stage) -> bool
 }
 
 // A write is carried into its cycle.
+#[tactic(auto, unfolding(crate::specs::Write::carried))]
 fn is_carried(top: EepromAddress, k: u8, d: Device) -> bool
     ensures { result ≡ carried top.0 k d }
 {
@@ -73,6 +74,7 @@ fn target_at(target: Target, stage: Stage) -> Target
 }
 
 // The cycle after an end.
+#[tactic(auto, unfolding(crate::specs::Write::cycle_after))]
 pub fn cycle_after(top: EepromAddress, k: u8, d: Device) -> Cycle
     ensures { result ≡ cycle_after top.0 k d }
 {
@@ -94,6 +96,7 @@ fn latched_by(code: Code, k: u8, stage: Stage) -> bool
 }
 
 // How WEL moves.
+#[tactic(auto, unfolding(crate::specs::Write::wel_after))]
 pub fn wel_after(k: u8, wel: bool, stage: Stage) -> bool
     ensures { result ≡ wel_after k wel stage }
 {

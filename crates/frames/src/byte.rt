@@ -131,6 +131,7 @@ fn written_at(boots: bool, d: Device, v: u8, stage: Stage) -> Device
 }
 
 // The device after a whole byte.
+#[tactic(auto, unfolding(crate::specs::Frame::after_byte))]
 pub fn after_byte(boots: bool, top: EepromAddress, v: u8, d: Device) -> Device
     ensures { result ≡ after_byte boots top.0 v d }
 {
@@ -146,6 +147,7 @@ pub fn after_byte(boots: bool, top: EepromAddress, v: u8, d: Device) -> Device
 }
 
 // Select opens a frame.
+#[tactic(auto, unfolding(crate::specs::Frame::after_select))]
 pub fn after_select(d: Device) -> Device
     ensures { result ≡ after_select d }
 {

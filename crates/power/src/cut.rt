@@ -84,6 +84,7 @@ fn protection_cut(mask: u8, d: Device) -> Protection
 }
 
 // The device after a cut.
+#[tactic(auto, unfolding(crate::specs::Power::after_cut))]
 pub fn after_cut(mask: u8, d: Device) -> Device
     ensures { result ≡ after_cut mask d }
 {
@@ -118,6 +119,7 @@ fn stored_count(load: Load, mask: u8, target: Target) -> u8
 }
 
 // How many bytes a cut stores: the loaded offsets under the mask.
+#[tactic(auto, unfolding(crate::specs::Power::cut_count))]
 pub fn cut_count(mask: u8, d: Device) -> u8
     ensures { result ≡ cut_count mask d }
 {
@@ -139,6 +141,7 @@ fn return_stamped(mark: bool, regs: [u8; 32]) -> [u8; 32]
     }
 }
 
+#[tactic(auto, unfolding(crate::specs::Power::after_up))]
 pub fn after_up(d: Device) -> Device
     ensures { result ≡ after_up d }
 {

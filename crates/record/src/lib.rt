@@ -231,6 +231,7 @@ pub fn fresh_counters() -> Counters
 }
 
 // A fresh chip, the same for every part.
+#[tactic(auto, unfolding(crate::specs::Fresh::fresh))]
 pub fn fresh_device() -> Device
     ensures { result ≡ fresh }
 {

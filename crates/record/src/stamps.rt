@@ -30,6 +30,7 @@ fn stamp_at(at: ClockAddress, s: Stamp, regs: [u8; 32]) -> [u8; 32]
 }
 
 // The time that the registers show is copied into a time-stamp, as it stands; hours without CALSGN.
+#[tactic(auto, unfolding(crate::specs::Stamps::stamped))]
 pub fn stamped_at(at: ClockAddress, regs: [u8; 32]) -> [u8; 32]
     requires { at.0 < 29 }
     ensures { result ≡ stamped at.0 regs }
@@ -44,6 +45,7 @@ pub fn stamped_at(at: ClockAddress, regs: [u8; 32]) -> [u8; 32]
 }
 
 // Both time-stamps are cleared.
+#[tactic(auto, unfolding(crate::specs::Stamps::unstamped))]
 pub fn unstamped(regs: [u8; 32]) -> [u8; 32]
     ensures { result ≡ unstamped regs }
 {

@@ -41,6 +41,7 @@ fn reply_at(eeprom: &[u8], id: &[u8], d: Device, stage: Stage) -> Option<u8>
     }
 }
 
+#[tactic(auto, unfolding(crate::specs::Reply::next_reply))]
 pub fn next_reply(eeprom: &[u8], id: &[u8], d: Device) -> Option<u8>
     requires { (eeprom_pointer (frame_place d.frame.stage) < length eeprom.now) × (id_pointer (frame_place d.frame.stage) < length id.now) }
     ensures { result ≡ next_reply eeprom.now id.now d }
@@ -63,6 +64,7 @@ fn first_bits(k: u8, reply: Option<u8>) -> Option<u8>
 }
 
 // A38. What an end with k leftover bits answers.
+#[tactic(auto, unfolding(crate::specs::Reply::leftover_reply))]
 pub fn leftover_reply(k: u8, eeprom: &[u8], id: &[u8], d: Device) -> Option<u8>
     requires { (k < 8) × (eeprom_pointer (frame_place d.frame.stage) < length eeprom.now) × (id_pointer (frame_place d.frame.stage) < length id.now) }
     ensures { result ≡ leftover_reply k eeprom.now id.now d }
