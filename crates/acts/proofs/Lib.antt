@@ -6,3 +6,4 @@ pub mod OutcomeLaws
 pub mod BoundLaws
 pub mod LeftoverLaws
 pub mod DrivenLaws
+pub mod NamedLaws

@@ -8,7 +8,6 @@ ghost use Rattle.refusals.specs.Refusal.{setup_refusal};
 ghost use Rattle.run.specs.Claim.{used_by};
 ghost use Rattle.run.specs.Run.{Answered, answered, inputs_in, Performed, Run, RunFrom};
 
-use record::number::ACTS;
 use record::{Act, Device};
 use refusals::Refusal;
 use run::Ran;
@@ -43,13 +42,12 @@ fn perform_all(
         .min(answers.len().min(used.len()));
     let mut chip = device;
     for i in 0..most {
-        if ACTS <= codes[i] {
+        let Ok(act) = Act::try_from(u64::from(codes[i])) else {
             return Ran {
                 count: i,
                 device: chip,
             };
-        }
-        let act = record::number::act_of(codes[i]);
+        };
         match acts::perform_in_range(part, act, args[i], chip, eeprom, id) {
             Ok(a) => {
                 answers[i] = 0;

@@ -6,34 +6,38 @@ use native.Mathlib.Omega.{arith}
 use lib.ListN.{length, get_or}
 use Rattle.record.specs.World.{world}
 use Rattle.acts.specs.Act.{outcome_done, refused, performed}
+use Rattle.acts.proofs.NamedLaws.{named, unnamed}
 use Rattle.run.proofs.TurnLaws.{none_used, left_turn, left_none, inputs_none, inputs_end, suits_turn}
 use Rattle.batch.proofs.perform_all.Goals as goal
-use Rattle.batch.proofs.perform_all.Goals.{in-Ok, in-Err}
+use Rattle.batch.proofs.perform_all.Goals.{in-Ok-perform_in_range, in-Err}
 
-pub returns-then-codes-i-ge-ACTS : goal.returns-then-codes-i-ge-ACTS
-returns-then-codes-i-ge-ACTS c =
+pub returns-in_default : goal.returns-in_default
+returns-in_default c =
     let l = c.loop-i in
-    left_none _ _ _ _ _ _ _ _ _ _ (inputs_none l.i _ _ _ (omega arith) (omega arith) (omega arith) (omega arith)) l.invariant.0
+    let n = rw c.from.ensures at (unnamed _ _ c.in_default.ensures) in
+    left_none _ _ _ _ _ _ _ _ _ _ (inputs_none l.i _ _ _ (omega arith) (omega arith) (omega arith) n) l.invariant.0
 
 pub loop-i-preserved : goal.loop-i-preserved
 loop-i-preserved c =
     let l = c.loop-i in
     let p = c.perform_in_range in
+    let act = c.in-Ok.act in
+    let n = rw c.from.ensures at (named _ _ c.in-Ok.ensures) in
     elim c.match-perform_in_range.branch [
-      | in-Ok w ↦
-          let a = outcome_done w.in-Ok.a p.new.eeprom p.new.id in
+      | in-Ok-perform_in_range w ↦
+          let a = outcome_done w.in-Ok-perform_in_range.a p.new.eeprom p.new.id in
           rw (w.answers-is, w.used-is, w.chip-is) (
-            left_turn _ _ _ _ _ l.i _ _ _ _ _ (world l.chip l.eeprom l.id) _ a _ (omega arith) (omega arith) (omega arith) (omega arith) (omega arith) (omega arith)
-                c.act_of-act.ensures w.in-Ok.ensures w.ticks_of.ensures l.invariant.0,
-            suits_turn _ _ _ (world l.chip l.eeprom l.id) a w.in-Ok.ensures l.invariant.1,
+            left_turn _ _ _ _ _ l.i _ _ _ _ _ (world l.chip l.eeprom l.id) _ a _ (omega arith) (omega arith) (omega arith) (omega arith) (omega arith) n.0
+                n.1 w.in-Ok-perform_in_range.ensures w.ticks_of.ensures l.invariant.0,
+            suits_turn _ _ _ (world l.chip l.eeprom l.id) a w.in-Ok-perform_in_range.ensures l.invariant.1,
           )
       | in-Err w ↦
-          let r = refused w.from.result (world l.chip p.new.eeprom p.new.id) in
-          let e : r ≡ performed c.args.part c.act_of-act.result (get_or c.args.args.now l.i 0) (world l.chip l.eeprom l.id) =
-          ap (λ (n : ℕ). refused n (world l.chip p.new.eeprom p.new.id)) w.from.ensures ∙ w.in-Err.ensures in
+          let r = refused w.from-in-Err.result (world l.chip p.new.eeprom p.new.id) in
+          let e : r ≡ performed c.args.part act (get_or c.args.args.now l.i 0) (world l.chip l.eeprom l.id) =
+          ap (λ (n : ℕ). refused n (world l.chip p.new.eeprom p.new.id)) w.from-in-Err.ensures ∙ w.in-Err.ensures in
           rw (w.answers-is, w.used-is, w.chip-is) (
-            left_turn _ _ _ _ _ l.i _ _ _ _ _ (world l.chip l.eeprom l.id) _ r 0 (omega arith) (omega arith) (omega arith) (omega arith) (omega arith) (omega arith)
-                c.act_of-act.ensures e (none_used c.act_of-act.result) l.invariant.0,
+            left_turn _ _ _ _ _ l.i _ _ _ _ _ (world l.chip l.eeprom l.id) _ r 0 (omega arith) (omega arith) (omega arith) (omega arith) (omega arith) n.0
+                n.1 e (none_used act) l.invariant.0,
             suits_turn _ _ _ (world l.chip l.eeprom l.id) r e l.invariant.1,
           )
     ]
