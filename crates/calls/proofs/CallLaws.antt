@@ -137,11 +137,11 @@ module _ (a : Arrays) (k : ℕ) (e : k ≡ arrays_refusal (part_of a.state) (len
       judged = yes judging (called (state_refusal a) (no_chip (state_refusal a)) a) (eq-eqb (state_refusal a) 0 (sym refused_by_lem ∙ z))
 
       pub act_none :
-          (answer : List ℕ) (d : Device) → 7 < act → answer ≡ answer_of 3 None 0 d → d ≡ (world_in a).device → called 3 answer a ≡ acts a act arg
-      act_none answer d h p q = (λ i. called 3 ((p ∙ ap (answer_of 3 None 0) q) i) a) ∙ no done (no_act a) (le-ltb act act_count (omega (arith, h))) ∙ judged
+          (answer : List ℕ) (d : Device) → act_count ≤ act → answer ≡ answer_of 3 None 0 d → d ≡ (world_in a).device → called 3 answer a ≡ acts a act arg
+      act_none answer d h p q = (λ i. called 3 ((p ∙ ap (answer_of 3 None 0) q) i) a) ∙ no done (no_act a) (le-ltb act act_count h) ∙ judged
 
       pub act_told :
-          (part : ℕ) (state answer : List ℕ) (d : Device) (code : Act) (o : Outcome) → part ≡ part_of a.state → act ≤ 7 → code ≡ act_of act
+          (part : ℕ) (state answer : List ℕ) (d : Device) (code : Act) (o : Outcome) → part ≡ part_of a.state → act < act_count → code ≡ act_of act
           → d ≡ (world_in a).device
           → o ≡ performed part code arg (world d a.eeprom a.id) → state ≡ state_of part o.after.device
           → answer ≡ answer_of o.number o.reply o.count o.after.device → called o.number answer (arrays state o.after.eeprom o.after.id) ≡ acts a act arg
@@ -149,7 +149,7 @@ module _ (a : Arrays) (k : ℕ) (e : k ≡ arrays_refusal (part_of a.state) (len
           (λ i. called r.number (p i) (arrays (s i) r.after.eeprom r.after.id))
           ∙ ap (told part) (o ∙ (λ i. performed part (c i) arg (world (q i) a.eeprom a.id)))
           ∙ ap (λ (n : ℕ). told n (performed n (act_of act) arg (world_in a))) pe
-          ∙ yes done (no_act a) (lt-ltb act act_count (omega (arith, h)))
+          ∙ yes done (no_act a) (lt-ltb act act_count h)
           ∙ judged
 
   module _ (room : List ℕ) where

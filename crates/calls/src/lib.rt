@@ -6,6 +6,7 @@ ghost use Rattle.arrays.specs.Arrays.{arrays};
 ghost use Rattle.calls.specs.Calls.{called, acts};
 
 use arrays::{ANSWER, Chip, STATE};
+use record::Act;
 
 // One act by its number, with its argument. The answer: the refusal number, whether SO drives, what it drives, the count, both levels.
 // Kept with its numbers: C reads them.
@@ -28,11 +29,10 @@ pub fn mcp795_act(
         }
     };
     let part = chip.part;
-    if 7 < act {
+    let Ok(code) = Act::try_from(act) else {
         arrays::put_answer(3, None, 0, chip.device, answer);
         return 3;
-    }
-    let code = record::number::act_of(act as u8);
+    };
     match acts::perform_in_range(u64::from(part), code, number, chip.device, eeprom, id) {
         Ok(done) => {
             let device = done.device;
