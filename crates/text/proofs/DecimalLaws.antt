@@ -10,7 +10,7 @@ use native.Mathlib.Numerals.{add-one}
 use native.Mathlib.Omega.{arith}
 use borrow.Author.Tests.{lt-ltb, le-ltb, le-leb, eq-eqb, ne_eqb, ltb-true, ltb-false, leb-true, eqb-false}
 use lib.Dec.{leb, ltb, eqb}
-use lib.ListN.{length, get_or, drop, length-append, drop_of_length-le, get_or-append}
+use lib.ListN.{length, get_or, take, drop, length-append, length-take, drop_of_length-le, get_or-append}
 use lib.Seq.{drop-cons, append_snoc}
 use Rattle.base.specs.Words.{every}
 use Rattle.base.proofs.Tests.{by_cases, pick_when, both_left, both_right, both_true, true_false}
@@ -50,6 +50,10 @@ bound_more n = rw add-one
 pub bound_small : (n : ℕ) → n < read_limit → bound n < 2 ^ 59
 unfolding bound every
 bound_small n h = bound_below bound (2 ^ 59) read_limit refl n h
+
+-- a digit that is read is one of the first
+pub read_small : {s : List ℕ} (digits : List ℕ) (i : ℕ) → s ≡ take read_limit digits → i < length s → bound i < 2 ^ 59
+read_small digits i e h = bound_small i (omega (arith, ap length e, length-take read_limit digits))
 
 -- a text does not change with more places than it needs
 enough : (j k n : ℕ) → n < j → n < k → text_within j n ≡ text_within k n

@@ -21,6 +21,7 @@ fn digit_value(b: u8) -> u64
 }
 
 // The value of digits; of more than are read, that of the first.
+#[tactic(auto, using(crate::proofs::DecimalLaws::bound_none, crate::proofs::DecimalLaws::bound_more, crate::proofs::DecimalLaws::value_more, crate::proofs::DecimalLaws::value_end))]
 pub fn value_of(digits: &[u8]) -> u64
     ensures { result ≡ value_of (take read_limit digits.now) }
 {
@@ -32,6 +33,7 @@ pub fn value_of(digits: &[u8]) -> u64
 }
 
 // The digits of a number: those of its tenth, then the last.
+#[tactic(auto, using(crate::proofs::BufferLaws::put_then, crate::proofs::DecimalLaws::decimal_small, crate::proofs::DecimalLaws::decimal_more, crate::proofs::DecimalLaws::decimal_some))]
 fn put_digits(n: u64, into: &mut [u8], at: usize) -> usize
     requires { at + length (decimal_text n) ≤ length into.old }
     ensures { buffer into.new result ≡ append (buffer into.old at) (decimal_text n) }
@@ -44,6 +46,7 @@ fn put_digits(n: u64, into: &mut [u8], at: usize) -> usize
 }
 
 // A number's decimal. Most numbers that are shown have one digit, and that takes no call.
+#[tactic(auto, using(crate::proofs::DecimalLaws::decimal_small, crate::proofs::DecimalLaws::decimal_some))]
 pub fn put_decimal(n: u64, into: &mut [u8], at: usize) -> usize
     requires { at + length (decimal_text n) ≤ length into.old }
     ensures { buffer into.new result ≡ append (buffer into.old at) (decimal_text n) }
