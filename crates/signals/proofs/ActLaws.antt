@@ -233,20 +233,14 @@ module _ (part arg : ℕ) (w : World) (v : Valid part w) where
   small : s.control < 256
   small = control_byte part d v.range
 
-  byte_high : evhif s.control ≡ false → evhif (after s (byte_moves arg d.frame.stage)).control ≡ true → HighAct Byte arg d
-  unfolding after control_written
-  byte_high f t =
-      ⊎_elim
-      (λ e. writes_high refl e (subst (λ (x : Stage). evhif (after s (byte_moves arg x)).control ≡ true) e t))
-      (λ n. absurd (true_false (subst (λ (x : List Move). evhif (after s x).control ≡ true) n t) f))
-      (event_stage arg d.frame.stage)
-
-  byte_low : evlif s.control ≡ false → evlif (after s (byte_moves arg d.frame.stage)).control ≡ true → LowAct Byte arg d
-  unfolding after control_written
-  byte_low f t =
-      ⊎_elim
-      (λ e. writes_low refl e (subst (λ (x : Stage). evlif (after s (byte_moves arg x)).control ≡ true) e t))
-      (λ n. absurd (true_false (subst (λ (x : List Move). evlif (after s x).control ≡ true) n t) f))
+  -- a byte sets a flag only where it stores into 0Bh
+  byte_sets :
+      (g : ℕ → Bool) {Q : Type 0} → (d.frame.stage ≡ to_event → g (after s (byte_moves arg to_event)).control ≡ true → Q) → g s.control ≡ false
+      → g (after s (byte_moves arg d.frame.stage)).control ≡ true → Q
+  unfolding after
+  byte_sets g q f t =
+      ⊎_elim (λ e. q e (subst (λ (x : Stage). g (after s (byte_moves arg x)).control ≡ true) e t))
+      (λ n. absurd (true_false (subst (λ (x : List Move). g (after s x).control ≡ true) n t) f))
       (event_stage arg d.frame.stage)
 
   -- a cut sets no flag
@@ -265,9 +259,9 @@ module _ (part arg : ℕ) (w : World) (v : Valid part w) where
       p.0 (not-true (evwdt s.control) (both_right (high_runs c s.control) (not (evwdt s.control)) e)) p.2
 
   high_made : (act : Act) → wrong_arg act arg ≡ false → evhif s.control ≡ false → evhif (after s (made act)).control ≡ true → HighAct act arg d
-  unfolding after
+  unfolding after control_written
   high_made Select a f t = absurd (true_false t f)
-  high_made Byte a f t = byte_high f t
+  high_made Byte a f t = byte_sets evhif (writes_high refl) f t
   high_made End a f t = absurd (true_false t f)
   high_made Wait a f t = absurd (true_false (sym (ticks_high (boots_of part) (waited (boots_of part) arg w).used w s small) ∙ t) f)
   high_made Cut a f t = absurd (true_false t (cut_clear evhif refl f))
@@ -287,9 +281,9 @@ module _ (part arg : ℕ) (w : World) (v : Valid part w) where
       (λ o. absurd (true_false (sym (low_offs s (tick_moves boots k w) (ticks_unwritten boots k w) small o) ∙ t) f))
 
   low_made : (act : Act) → evlif s.control ≡ false → evlif (after s (made act)).control ≡ true → LowAct act arg d
-  unfolding after
+  unfolding after control_written
   low_made Select f t = absurd (true_false t f)
-  low_made Byte f t = byte_low f t
+  low_made Byte f t = byte_sets evlif (writes_low refl) f t
   low_made End f t = absurd (true_false t f)
   low_made Wait f t = wait_low f t
   low_made Cut f t = absurd (true_false t (cut_clear evlif refl f))

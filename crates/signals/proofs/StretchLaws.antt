@@ -10,7 +10,7 @@ use Rattle.base.proofs.Tests.{pick_case, neither_left, neither_right, true_false
 use Rattle.events.specs.declared.Inputs.{Inputs}
 use Rattle.events.specs.Control.{evhif, evlif, even1, even0, evwdt, number_of, debounce_of, low_runs, window_ticks}
 use Rattle.events.specs.Tick.{window_runs, window_tick, events_tick}
-use Rattle.events.specs.Story.{Move, after, writing, written, Window, Steady, HighReady, LowReady}
+use Rattle.events.specs.Story.{Move, moved, after, writing, written, Window, Steady, HighReady, LowReady}
 use Rattle.events.proofs.ControlLaws.{Settings}
 use Rattle.events.proofs.MoveLaws.{High, debounce_high, window_control, leaves, settings_after}
 use Rattle.events.proofs.StoryLaws.{high_exact_lem, low_exact_lem, high_off_lem, low_off_lem}
@@ -61,45 +61,37 @@ module _ (g : ℕ → Bool) (s : Inputs) (lasting : Lasting g s) (P : List Move 
   exact_at [] past w f q = (λ t. absurd (true_false t f), λ v. absurd (exact_none past w f v))
   exact_at (m ∷ rest) past w f q = x.next m (rest ++ past) w (q m rest refl)
 
+-- What every move but a write keeps, under the settings that were there at first, a list of such moves keeps.
+stretch :
+    (P : Inputs → Type 0) (s : Inputs) → ((m : Move) (x : Inputs) → writing m ≡ false → Settings s.control x.control → P x → P (moved m x))
+    → (past : List Move) → written past ≡ false → s.control < 256 → P s → P (after s past)
+unfolding after written
+stretch P s step [] w b h = h
+stretch P s step (m ∷ past) w b h =
+    let p = neither_left (written past) (writing m) w in
+    step m (after s past) (neither_right (written past) (writing m) w) (settings_after s past p b) (stretch P s step past p b h)
+
 -- V4, V8. not enabled: no moves but a write change the flag
 pub high_offs :
     (s : Inputs) (past : List Move) → written past ≡ false → s.control < 256 → (even1 s.control && not (evwdt s.control)) ≡ false
     → evhif (after s past).control ≡ evhif s.control
-unfolding after written
-high_offs s [] w b o = refl
-high_offs s (m ∷ past) w b o =
-    let p = neither_left (written past) (writing m) w in
-    let k : Settings s.control (after s past).control = settings_after s past p b in
-    high_off_lem m (after s past) (neither_right (written past) (writing m) w) k.byte ((λ i. k.high i && not (k.kick i)) ∙ o) ∙ high_offs s past p b o
+high_offs s past w b o =
+    stretch (λ (x : Inputs). evhif x.control ≡ evhif s.control) s (λ m x f k e. high_off_lem m x f k.byte ((λ i. k.high i && not (k.kick i)) ∙ o) ∙ e) past w b refl
 
 pub low_offs :
     (s : Inputs) (past : List Move) → written past ≡ false → s.control < 256 → even0 s.control ≡ false
     → evlif (after s past).control ≡ evlif s.control
-unfolding after written
-low_offs s [] w b o = refl
-low_offs s (m ∷ past) w b o =
-    let p = neither_left (written past) (writing m) w in
-    let k : Settings s.control (after s past).control = settings_after s past p b in
-    low_off_lem m (after s past) (neither_right (written past) (writing m) w) k.byte (k.low ∙ o) ∙ low_offs s past p b o
+low_offs s past w b o =
+    stretch (λ (x : Inputs). evlif x.control ≡ evlif s.control) s (λ m x f k e. low_off_lem m x f k.byte (k.low ∙ o) ∙ e) past w b refl
 
 -- a flag that is set stays
 pub high_kept :
     (s : Inputs) (past : List Move) → written past ≡ false → s.control < 256 → evhif s.control ≡ true → evhif (after s past).control ≡ true
-unfolding after written
-high_kept s [] w b t = t
-high_kept s (m ∷ past) w b t =
-    let p = neither_left (written past) (writing m) w in
-    let k : Settings s.control (after s past).control = settings_after s past p b in
-    (leaves m (after s past) (neither_right (written past) (writing m) w) k.byte).high (high_kept s past p b t)
+high_kept s = stretch (λ (x : Inputs). evhif x.control ≡ true) s (λ m x f k. (leaves m x f k.byte).high)
 
 pub low_kept :
     (s : Inputs) (past : List Move) → written past ≡ false → s.control < 256 → evlif s.control ≡ true → evlif (after s past).control ≡ true
-unfolding after written
-low_kept s [] w b t = t
-low_kept s (m ∷ past) w b t =
-    let p = neither_left (written past) (writing m) w in
-    let k : Settings s.control (after s past).control = settings_after s past p b in
-    (leaves m (after s past) (neither_right (written past) (writing m) w) k.byte).low (low_kept s past p b t)
+low_kept s = stretch (λ (x : Inputs). evlif x.control ≡ true) s (λ m x f k. (leaves m x f k.byte).low)
 
 -- a tick never sets EVHIF, and EVLIF only where a debounce runs
 pub tick_high : (c : Bool) (s : Inputs) → s.control < 256 → evhif (events_tick c s).control ≡ evhif s.control
