@@ -5,9 +5,6 @@ ghost use Rattle.record.specs.Numbers.{act_of, act_count, protection_of, protect
 
 use crate::{Act, Pin, Protection};
 
-// How many acts there are.
-pub const ACTS: u8 = 8;
-
 // A number that no act has.
 #[derive(Clone, Copy, Debug, PartialEq, Eq)]
 pub struct NoAct(pub u64);
@@ -30,22 +27,6 @@ impl TryFrom<u64> for Act {
             7 => Ok(Act::Set(Pin::Evhs)),
             _ => Err(NoAct(n)),
         }
-    }
-}
-
-// The acts in their order.
-pub fn act_of(n: u8) -> Act
-    ensures { result ≡ act_of n }
-{
-    match n {
-        0 => Act::Select,
-        1 => Act::Byte,
-        2 => Act::End,
-        3 => Act::Wait,
-        4 => Act::Cut,
-        5 => Act::Up,
-        6 => Act::Set(Pin::Evls),
-        _ => Act::Set(Pin::Evhs),
     }
 }
 
