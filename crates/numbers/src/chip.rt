@@ -15,6 +15,7 @@ use record::{Counters, Cycle, Device, Frame, Guard, Load, Lock, Protection, Stag
 use text::buffer;
 
 // Numbers from a place on, as bytes.
+// An index: the contract speaks of the places of both lists.
 pub fn take_bytes(numbers: &[u64], from: usize, into: &mut [u8])
     requires into_in_bounds { from + length into.old ≤ length numbers.now }
     requires bytes_from { BytesFrom numbers.now from (length into.old) }
@@ -190,6 +191,7 @@ fn event_numbers(e: Events) -> [u64; 5]
 }
 
 // Bytes put into a list of numbers; the place after them is answered.
+// An index: the contract speaks of the places of both lists.
 fn put_bytes(from: &[u8], into: &mut [u64], at: usize) -> usize
     requires { at + length from.now ≤ length into.old }
     ensures { buffer into.new result ≡ append (buffer into.old at) from.now }

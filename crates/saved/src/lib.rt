@@ -22,6 +22,7 @@ mod scan; // scan.rt: a text read from left to right
 const TEXT_ROOM: usize = 8000;
 
 // A place in a text, the good lines so far, and whether a bad line was met.
+// Kept with its flag: the definitions that the clauses equal read on behind a bad line (`Reading`, `text_read`).
 #[derive(Clone, Copy)]
 pub struct Place {
     pub at: usize,

@@ -28,6 +28,7 @@ pub struct Read {
 }
 
 // The numbers of a line, put behind those before it.
+// An index: the contract speaks of the place of each number in the row and in the list.
 fn read_numbers(
     text: &[u8],
     p: Place,
@@ -112,6 +113,7 @@ fn read_row(
 }
 
 // The rows from one to before another.
+// An index: the contract speaks of places in the table.
 fn read_between(
     text: &[u8],
     p: Place,
