@@ -3,7 +3,7 @@
 use mathlib.Core.Path.{◌≡◌, refl, sym, ap, subst, ◌∙◌}
 use mathlib.Core.Bool.{Bool, true, false}
 use mathlib.Core.List.{List, [], ◌++◌, append-nil, append_assoc}
-use mathlib.Core.Logic.{inl, ⊎_elim}
+use mathlib.Core.Logic.{inl, ⊎_elim, ∥∥₁_map}
 use Prim.Native.Nat.{ℕ, ◌*◌, ◌-◌, ◌≤◌}
 use native.Mathlib.Omega.{arith}
 use lib.ListN.{length, take}
@@ -54,15 +54,20 @@ pub none_read : (l : Loan) (out input : List ℕ) → FeedsRead l out input l ou
 unfolding fed
 none_read l out input s bytes h = inl (0, record { behind = none_fed s l bytes h; answered = refl })
 
--- what was read is fed, and so is the end
+-- a chunk that was fed whole is fed, what was read is, and so is the end
+pub all_on : (l l' : Loan) (chunk out : List ℕ) (put : ℕ) → FeedsAll l chunk l' out put → FedOn l l'
+all_on l l' chunk out put f s bytes h = (chunk, (f s bytes h).behind)
+
+pub ends_on : (l l' : Loan) (out out' : List ℕ) (put : ℕ) → Ends l out l' out' put → FedOn l l'
+ends_on l l' out out' put r s bytes h =
+    let e = has_ended s l bytes (buffer out 0) h in
+    (e.0, subst (λ (x : Loan). HasFed s x (bytes ++ e.0)) (sym r.0) e.1)
+
 pub read_on_lem :
     (l l' : Loan) (out out' input : List ℕ) (put : ℕ) (more : Bool) → FeedsRead l out input l' out' put more → FedOn l l'
 read_on_lem l l' out out' input put more f s bytes h =
     ⊎_elim (λ (r : (n : ℕ) × PieceFed s l bytes (take n input) l' out' put). (take r.0 input, r.1.behind))
-    (λ (r : (more ≡ false) × Ends l out l' out' put).
-    let e = has_ended s l bytes (buffer out 0) h in
-    (e.0, subst (λ (x : Loan). HasFed s x (bytes ++ e.0)) (sym r.1.0) e.1))
-    (f s bytes h)
+    (λ (r : (more ≡ false) × Ends l out l' out' put). ends_on l l' out out' put r.1 s bytes h) (f s bytes h)
 
 -- one thing behind another
 pub on_none : (l : Loan) → FedOn l l
@@ -83,6 +88,10 @@ pub on_fed : (l l' : Loan) → IsFed l → FedOn l l' → IsFed l'
 on_fed l l' i f =
     let p = f i.0 i.1.0 i.1.1 in
     (i.0, (i.1.0 ++ p.0, p.1))
+
+-- the same where it is only known that some bytes lead there
+pub fed_on : (l l' : Loan) → ∥ IsFed l ∥₁ → FedOn l l' → ∥ IsFed l' ∥₁
+fed_on l l' i f = ∥∥₁_map i (λ (e : IsFed l). on_fed l l' e f)
 
 -- what a tape begins with that `start` answered, and that `resume` did
 start_fed : (l : Loan) → Begins l → IsFed l

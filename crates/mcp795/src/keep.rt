@@ -1,10 +1,9 @@
 // A tape that begins with a chip from a file, or whose chip is put into one after the last line.
-use crate::argument::{Kept, Name};
-use crate::one_tape::{Chip, Source};
+use crate::argument::Kept;
+use crate::one_tape::{Chip, Running, Source};
 use crate::tell::{Reason, Stop, tell};
-use crate::{argument, file};
+use crate::{argument, file, one_tape};
 use saved::{LoadError, Loaded, SaveError};
-use tape::Tape;
 use text::bytes;
 
 // Room for a saved chip. The text of one has fewer bytes, so that the first bad line of a longer file begins in the first bytes, and is bad there too.
@@ -30,11 +29,8 @@ fn load_chip(
 fn load_text(text: &[u8]) -> Result<Chip, Reason> {
     let mut chip = Chip::new();
     let loaded = load_chip(text, &mut chip.eeprom, &mut chip.id).map_err(not_loaded)?;
-    chip.tape = Tape {
-        part: loaded.part,
-        device: loaded.device,
-        begun: 0,
-    };
+    chip.part = loaded.part;
+    chip.device = loaded.device;
     Ok(chip)
 }
 
@@ -64,75 +60,66 @@ fn load(rt: HostRuntime, place: usize) -> Result<Chip, Stop> {
     load_text(text.as_slice()).map_err(|why| tell(rt, name.as_slice(), &why))
 }
 
-// Saves the chip of a tape that was answered to its end.
-fn save(rt: HostRuntime, name: &[u8], chip: &Chip) -> Result<(), Stop> {
-    let part = chip.tape.part;
+// Saves the chip that a tape left.
+fn save(rt: HostRuntime, name: &[u8], left: &Running) -> Result<(), Stop> {
+    let part = left.tape.part;
     if part == 0 {
         return Err(tell(rt, name, &Reason::NoPart));
     }
     let size = record::part::size(part) as usize;
     let mut room = [0u8; TEXT_ROOM];
-    let saved = saved::save(
+    let length = saved::save(
         part,
-        chip.tape.device,
-        bytes::first(&chip.eeprom, size),
-        &chip.id,
+        left.tape.device,
+        bytes::first(&left.eeprom, size),
+        &left.id,
         &mut room,
-    );
-    match saved {
-        Ok(length) => file::replace(rt, name, bytes::first(&room, length)),
-        Err(error) => Err(tell(rt, name, &not_saved(error))),
-    }
+    )
+    .map_err(|error| tell(rt, name, &not_saved(error)))?;
+    file::replace(rt, name, bytes::first(&room, length))
 }
 
-// The name of a tape by its place. Where there is none, that is the dash, standard input.
-fn tape_name(rt: HostRuntime, tape: Option<usize>) -> Result<Name, Stop> {
+// Opens a tape, or standard input where none is named.
+fn open(rt: HostRuntime, tape: Option<usize>) -> Result<Source, Stop> {
     match tape {
-        Some(place) => argument::named(rt, place),
-        None => {
-            let mut dash = Name::new();
-            dash.push(b'-');
-            Ok(dash)
-        }
+        Some(place) => Source::open(rt, place),
+        None => Ok(Source::Input(rt.stdin())),
     }
 }
 
-// Answers a tape that begins with a chip.
-fn run(rt: HostRuntime, chip: &mut Chip, tape: Option<usize>) -> Result<(), Stop> {
-    let name = tape_name(rt, tape)?;
-    let mut source = Source::open(rt, name.as_slice())?;
-    chip.run_tape(rt, &mut source)
+// Tells that a file stays as it was, unless nobody reads the answers any more.
+fn tell_unsaved(rt: HostRuntime, name: &[u8], stop: Stop) -> Stop {
+    if !matches!(stop, Stop::Unread) {
+        tell(rt, name, &Reason::TapeBroken);
+    }
+    stop
 }
 
 // Answers a tape, and saves the chip that it leaves, once it is seen that this can be done. Where the tape was not answered to its end, the file stays as
 // it was, and the tape can be answered again from what it began with.
 fn run_saved(
     rt: HostRuntime,
-    chip: &mut Chip,
+    chip: Chip,
     tape: Option<usize>,
     place: usize,
 ) -> Result<(), Stop> {
-    let name = argument::named(rt, place)?;
-    file::check(rt, name.as_slice())?;
-    let ran = run(rt, chip, tape);
-    match ran {
-        Ok(()) => save(rt, name.as_slice(), chip),
-        Err(Stop::Unread) => ran,
-        Err(_) => {
-            tell(rt, name.as_slice(), &Reason::TapeBroken);
-            ran
-        }
-    }
+    let file = argument::named(rt, place)?;
+    let name = file.as_slice();
+    file::check(rt, name)?;
+    let mut source = open(rt, tape).map_err(|stop| tell_unsaved(rt, name, stop))?;
+    let (left, ran) = one_tape::run_tape(rt, &mut source, chip);
+    ran.map_err(|stop| tell_unsaved(rt, name, stop))?;
+    save(rt, name, &left)
 }
 
 // Answers one tape, whose chip is loaded, or saved, or both.
 pub(crate) fn run_kept(rt: HostRuntime, kept: Kept) -> Result<(), Stop> {
-    let mut chip = match kept.load {
+    let chip = match kept.load {
         Some(place) => load(rt, place)?,
         None => Chip::new(),
     };
     match kept.save {
-        Some(place) => run_saved(rt, &mut chip, kept.tape, place),
-        None => run(rt, &mut chip, kept.tape),
+        Some(place) => run_saved(rt, chip, kept.tape, place),
+        None => one_tape::run(rt, open(rt, kept.tape)?, chip),
     }
 }

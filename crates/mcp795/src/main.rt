@@ -10,6 +10,7 @@ mod one_tape; // one_tape.rt: one tape, from a file or standard input to standar
 mod tell; // tell.rt: what is told on standard error
 
 use argument::{Asked, Order};
+use one_tape::{Chip, Source};
 use std::process::ExitCode;
 use tell::{Reason, Stop, tell, tell_unless};
 
@@ -24,10 +25,9 @@ fn obey(rt: HostRuntime, order: Order) -> Result<(), Stop> {
     }
 }
 
-// Answers a tape by the place of its argument.
+// Answers the tape of an argument, which begins without a part.
 fn run_argument(rt: HostRuntime, place: usize) -> Result<(), Stop> {
-    let name = argument::named(rt, place)?;
-    one_tape::run_new(rt, name.as_slice())
+    one_tape::run(rt, Source::open(rt, place)?, Chip::new())
 }
 
 // Answers every tape that is named, though one could not be read. The argument that ends the options is none.
@@ -49,7 +49,7 @@ fn run_asked(rt: HostRuntime) -> Result<(), Stop> {
     let count = argument::count(rt);
     match argument::ask_all(rt, count) {
         Ok(Asked::Order(order)) => obey(rt, order),
-        Ok(Asked::Input) => one_tape::run_new(rt, b"-"),
+        Ok(Asked::Input) => one_tape::run(rt, Source::Input(rt.stdin()), Chip::new()),
         Ok(Asked::Tapes { end }) => run_named(rt, count, end),
         Ok(Asked::Kept(kept)) => keep::run_kept(rt, kept),
         Err(misuse) => Err(tell(rt, misuse.option.name(), &misuse.why)),

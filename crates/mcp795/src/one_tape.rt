@@ -5,8 +5,10 @@ ghost use Rattle.lines.specs.Print.{answer_room};
 ghost use Rattle.tape.specs.Tape.{loan};
 ghost use Rattle.mcp795.specs.Reading.{IsFed, FeedsAll, Ends, FeedsRead, FedOn, RunsFrom, put_by, more_after};
 
-use crate::file;
+use crate::argument::Name;
+use crate::{argument, file};
 use crate::tell::{Stop, tell_error, tell_unless};
+use record::Device;
 use std::fs::File;
 use std::io;
 use std::io::{Read, Stdin};
@@ -20,27 +22,29 @@ const OUT_ROOM: usize = INPUT_ROOM * codec::print::ANSWER_ROOM;
 
 // Where a tape is read from: standard input, or a file by its name.
 #[derive(Drop)]
-pub enum Source<'a> {
+pub enum Source {
     Input(Stdin),
-    File(File, &'a [u8]),
+    File(File, Name),
 }
 
-impl<'a> Source<'a> {
-    // Opens a tape. The dash is standard input.
-    pub(crate) fn open(rt: HostRuntime, name: &'a [u8]) -> Result<Source<'a>, Stop> {
-        if matches!(name, b"-") {
+impl Source {
+    // Opens the tape of an argument. The dash is standard input.
+    pub(crate) fn open(rt: HostRuntime, place: usize) -> Result<Source, Stop> {
+        let name = argument::named(rt, place)?;
+        if matches!(name.as_slice(), b"-") {
             return Ok(Source::Input(rt.stdin()));
         }
-        file::open_read(rt, name)
-            .map(|file| Source::File(file, name))
-            .map_err(|error| tell_error(rt, name, error))
+        match file::open_read(rt, name.as_slice()) {
+            Ok(file) => Ok(Source::File(file, name)),
+            Err(error) => Err(tell_error(rt, name.as_slice(), error)),
+        }
     }
 
     // What it is called where it cannot be read.
     fn name(&self) -> &[u8] {
         match self {
             Source::Input(_) => b"standard input",
-            Source::File(_, name) => name,
+            Source::File(_, name) => name.as_slice(),
         }
     }
 
@@ -69,32 +73,45 @@ pub enum Put {
     Last(usize),
 }
 
-// A chip and its tape: how far the tape has come, and what it is lent, the head of its line and the chip's memories.
+// A chip: its part, 0 where there is none, its record, and its memories in the lengths that are lent to a tape.
 #[derive(Drop)]
 pub struct Chip {
-    pub tape: Tape,
-    pub line: [u8; tape::chunk::HEAD_LIMIT],
+    pub part: u64,
+    pub device: Device,
     pub eeprom: [u8; tape::chunk::EEPROM_ROOM],
     pub id: [u8; tape::chunk::ID_SIZE],
 }
 
 impl Chip {
-    // No chip yet: its tape begins without a part.
+    // No chip.
     pub(crate) fn new() -> Chip {
         Chip {
-            tape: tape::chunk::start(),
-            line: [0; tape::chunk::HEAD_LIMIT],
+            part: 0,
+            device: record::fresh_device(),
             eeprom: [0; tape::chunk::EEPROM_ROOM],
             id: [0; tape::chunk::ID_SIZE],
         }
     }
+}
+
+// A tape, how far it has come, and what it is lent: the head of a line, and the memories of its chip. They hold the state that some bytes lead to.
+#[derive(Drop)]
+pub struct Running {
+    pub tape: Tape,
+    line: [u8; tape::chunk::HEAD_LIMIT],
+    pub eeprom: [u8; tape::chunk::EEPROM_ROOM],
+    pub id: [u8; tape::chunk::ID_SIZE],
+    ghost fed: { ∥ IsFed (loan tape line eeprom id) ∥₁ },
+}
+
+impl Running {
+    ghost use Rattle.mcp795.specs.Running.{lent};
 
     // Answers what was read, and tells how many bytes of answers there are.
     fn answer(&mut self, chunk: &[u8], out: &mut [u8]) -> usize
-        requires fed { IsFed (loan self.old.tape self.old.line self.old.eeprom self.old.id) }
         requires chunk_in_bounds { answer_room * length chunk.now ≤ length out.old }
-        ensures { FeedsAll (loan self.old.tape self.old.line self.old.eeprom self.old.id) chunk.now
-            (loan self.new.tape self.new.line self.new.eeprom self.new.id) out.new result }
+        ensures { FeedsAll (lent self.old) chunk.now
+            (lent self.new) out.new result }
     {
         let fed = tape::chunk::feed(
             chunk,
@@ -111,8 +128,8 @@ impl Chip {
 
     // The end of a tape: its last line may have no newline.
     fn finish(&mut self, out: &mut [u8]) -> usize
-        ensures { Ends (loan self.old.tape self.old.line self.old.eeprom self.old.id) out.old
-            (loan self.new.tape self.new.line self.new.eeprom self.new.id) out.new result }
+        ensures { Ends (lent self.old) out.old
+            (lent self.new) out.new result }
     {
         let last = tape::chunk::finish(
             self.tape,
@@ -128,9 +145,8 @@ impl Chip {
 
     // Reads once, and answers what came.
     fn read_once(&mut self, source: &mut Source, turn: &mut Turn) -> io::Result<Put>
-        requires fed { IsFed (loan self.old.tape self.old.line self.old.eeprom self.old.id) }
-        ensures { FeedsRead (loan self.old.tape self.old.line self.old.eeprom self.old.id) turn.old.out turn.new.input
-            (loan self.new.tape self.new.line self.new.eeprom self.new.id) turn.new.out (put_by result) (more_after result) }
+        ensures { FeedsRead (lent self.old) turn.old.out turn.new.input
+            (lent self.new) turn.new.out (put_by result) (more_after result) }
     {
         let n = source.read(&mut turn.input)?;
         if n == 0 {
@@ -146,9 +162,8 @@ impl Chip {
         source: &mut Source,
         turn: &mut Turn,
     ) -> Result<(), Stop>
-        requires fed { IsFed (loan self.old.tape self.old.line self.old.eeprom self.old.id) }
-        ensures { FedOn (loan self.old.tape self.old.line self.old.eeprom self.old.id)
-            (loan self.new.tape self.new.line self.new.eeprom self.new.id) }
+        ensures { FedOn (lent self.old)
+            (lent self.new) }
     {
         for _ in 0..u64::MAX {
             match self.read_once(source, turn) {
@@ -159,20 +174,6 @@ impl Chip {
         }
         Err(Stop::Told)
     }
-
-    // Answers a tape that begins with the chip, or without a part where there is none.
-    pub(crate) fn run_tape(&mut self, rt: HostRuntime, source: &mut Source) -> Result<(), Stop>
-        ensures { RunsFrom self.old.tape.part self.old.tape.device self.old.eeprom self.old.id
-            self.new.tape self.new.eeprom self.new.id }
-    {
-        let mut turn = Turn {
-            input: [0; INPUT_ROOM],
-            out: [0; OUT_ROOM],
-        };
-        let (part, device) = (self.tape.part, self.tape.device);
-        self.tape = tape::chunk::resume(part, device, &self.eeprom, &self.id);
-        self.read_all(rt, source, &mut turn)
-    }
 }
 
 // Writes answers, and tells where that fails.
@@ -180,8 +181,36 @@ fn write_answers(rt: HostRuntime, answers: &[u8]) -> Result<(), Stop> {
     tell_unless(rt, rt.write_all(answers))
 }
 
-// Answers a tape by its name, which begins without a part.
-pub(crate) fn run_new(rt: HostRuntime, name: &[u8]) -> Result<(), Stop> {
-    let mut source = Source::open(rt, name)?;
-    Chip::new().run_tape(rt, &mut source)
+// Answers a tape that begins with a chip, or without a part where there is none. What it leaves is answered, and whether it was answered to its end.
+pub(crate) fn run_tape(
+    rt: HostRuntime,
+    source: &mut Source,
+    chip: Chip,
+) -> (Running, Result<(), Stop>)
+    ensures { RunsFrom chip.part chip.device chip.eeprom chip.id result.0.tape result.0.eeprom result.0.id }
+{
+    let Chip {
+        part,
+        device,
+        eeprom,
+        id,
+    } = chip;
+    let mut turn = Turn {
+        input: [0; INPUT_ROOM],
+        out: [0; OUT_ROOM],
+    };
+    let mut running = Running {
+        tape: tape::chunk::resume(part, device, &eeprom, &id),
+        line: [0; tape::chunk::HEAD_LIMIT],
+        eeprom,
+        id,
+    };
+    let ran = running.read_all(rt, source, &mut turn);
+    (running, ran)
+}
+
+// The same, where what it leaves is of no use.
+pub(crate) fn run(rt: HostRuntime, mut source: Source, chip: Chip) -> Result<(), Stop> {
+    let (_, ran) = run_tape(rt, &mut source, chip);
+    ran
 }
