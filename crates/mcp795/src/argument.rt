@@ -1,4 +1,4 @@
-// The arguments, each by its place, and what they ask for.
+// The arguments and what they ask for. Each is named by its place, as the system gives it: std's `args` needs the heap, and refuses a name that is not UTF-8.
 use crate::bounded::Bounded;
 use crate::file::NAME_ROOM;
 use crate::tell::{Reason, Stop, tell, tell_error};

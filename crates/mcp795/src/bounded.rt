@@ -1,4 +1,4 @@
-// Bytes in a room of their own, so that a name, a path or a small file needs no heap.
+// Bytes in a room of their own. A name, a path or a small file in a String or Vec could fail for want of memory, a new way to end.
 ghost use Rattle.std.specs.Prelude.{◌≤◌};
 
 // At most N bytes, the first of a room.

@@ -60,7 +60,8 @@ fn rename(rt: HostRuntime, from: &[u8], to: &[u8]) -> io::Result<()> {
     fs::rename(&rt, path(from)?, path(to)?)
 }
 
-// Reads until the text is full, the file ends or a read fails, and answers how many bytes came.
+// Reads until the text is full, the file ends or a read fails, and answers how many bytes came. A loop that is no count: it goes on by what a read gave,
+// and reads nothing more once the text is full.
 fn read_full(file: &mut File, text: &mut [u8]) -> usize
     ensures { result ≤ length text.new }
 {

@@ -97,12 +97,7 @@ fn tell_unsaved(rt: HostRuntime, name: &[u8], stop: Stop) -> Stop {
 
 // Answers a tape, and saves the chip that it leaves, once it is seen that this can be done. Where the tape was not answered to its end, the file stays as
 // it was, and the tape can be answered again from what it began with.
-fn run_saved(
-    rt: HostRuntime,
-    chip: Chip,
-    tape: Option<usize>,
-    place: usize,
-) -> Result<(), Stop> {
+fn run_saved(rt: HostRuntime, chip: Chip, tape: Option<usize>, place: usize) -> Result<(), Stop> {
     let file = argument::named(rt, place)?;
     let name = file.as_slice();
     file::check(rt, name)?;

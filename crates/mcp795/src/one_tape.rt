@@ -6,8 +6,8 @@ ghost use Rattle.tape.specs.Tape.{loan};
 ghost use Rattle.mcp795.specs.Reading.{IsFed, FeedsAll, Ends, FeedsRead, FedOn, RunsFrom, put_by, more_after};
 
 use crate::argument::Name;
-use crate::{argument, file};
 use crate::tell::{Stop, tell_error, tell_unless};
+use crate::{argument, file};
 use record::Device;
 use std::fs::File;
 use std::io;
