@@ -5,28 +5,39 @@ ghost use Rattle.record.specs.Numbers.{act_of, act_count, protection_of, protect
 
 use crate::{Act, Pin, Protection};
 
+// How many acts there are.
+pub const ACTS: u8 = 8;
+
+// The acts in their order. It answers for any number; a number that has no act is told by `try_from`.
+pub fn act_of(n: u8) -> Act
+    ensures { result ≡ act_of n }
+{
+    match n {
+        0 => Act::Select,
+        1 => Act::Byte,
+        2 => Act::End,
+        3 => Act::Wait,
+        4 => Act::Cut,
+        5 => Act::Up,
+        6 => Act::Set(Pin::Evls),
+        _ => Act::Set(Pin::Evhs),
+    }
+}
+
 // A number that no act has.
 #[derive(Clone, Copy, Debug, PartialEq, Eq)]
 pub struct NoAct(pub u64);
 
-// The acts in their order.
 impl TryFrom<u64> for Act {
     type Error = NoAct;
 
     ghost try_from_gives = { λ n r. r ≡ pick (ltb n act_count) (Ok (act_of n)) (Err (record { 0 = n })) };
 
     fn try_from(n: u64) -> Result<Act, NoAct> {
-        match n {
-            0 => Ok(Act::Select),
-            1 => Ok(Act::Byte),
-            2 => Ok(Act::End),
-            3 => Ok(Act::Wait),
-            4 => Ok(Act::Cut),
-            5 => Ok(Act::Up),
-            6 => Ok(Act::Set(Pin::Evls)),
-            7 => Ok(Act::Set(Pin::Evhs)),
-            _ => Err(NoAct(n)),
+        if n < u64::from(ACTS) {
+            return Ok(act_of(n as u8));
         }
+        Err(NoAct(n))
     }
 }
 
