@@ -10,7 +10,7 @@ use lib.ListN.{length, get_or}
 use Rattle.std.specs.Prelude.{Result, Ok, Err}
 use Rattle.std.specs.Result.{is_ok}
 use Rattle.base.specs.Words.{pick}
-use Rattle.base.proofs.Tests.{yes, no}
+use Rattle.base.proofs.Tests.{by_cases, yes, no}
 use Rattle.record.specs.Part.{is_part}
 use Rattle.refusals.specs.Refusal.{number_of, wrong_length, first_refusal}
 use Rattle.record.specs.declared.Device.{Device}
@@ -66,13 +66,16 @@ pub read_told :
     (bs : List ℕ) (r : Result Chip Refusal) (ok : Bool) (part ee id : ℕ) → r ≡ chip_read bs → ok ≡ is_ok r → part ≡ part_of bs
     → 0 ≡ arrays_refusal part ee id ok → number_of r ≡ arrays_refusal (part_of bs) ee id (is_state bs)
 read_told bs r ok part ee id e o p z =
-    ap number_of e
-    ∙ by_case (is_state bs) (not (is_part (part_of bs))) (wrong_length (part_of bs) ee id) (z ∙ (λ i. arrays_refusal (p i) ee id ((o ∙ ap is_ok e) i)))
+    ap number_of e ∙ by_case (is_state bs) (z ∙ (λ i. arrays_refusal (p i) ee id ((o ∙ ap is_ok e) i)))
   where
+    not_there : 0 ≡ arrays_refusal (part_of bs) ee id false → ⊥
+    not_there h =
+        by_cases (is_part (part_of bs))
+        (λ t. by_cases (wrong_length (part_of bs) ee id) (λ u. let k = simp (t, u) at h in omega (arith, k)) (λ u. let k = simp (t, u) at h in omega (arith, k)))
+        (λ t. let k = simp t at h in omega (arith, k))
+
     by_case :
-        (t p w : Bool) → 0 ≡ first_refusal p w (not (is_ok (pick t (Ok (chip_in bs)) (Err Range)))) false false 0
-        → number_of (pick t (Ok (chip_in bs)) (Err Range)) ≡ first_refusal p w (not t) false false 0
-    by_case true p w h = h
-    by_case false true w h = omega (arith, h)
-    by_case false false true h = omega (arith, h)
-    by_case false false false h = refl
+        (t : Bool) → 0 ≡ arrays_refusal (part_of bs) ee id (is_ok (pick t (Ok (chip_in bs)) (Err Range)))
+        → number_of (pick t (Ok (chip_in bs)) (Err Range)) ≡ arrays_refusal (part_of bs) ee id t
+    by_case true h = h
+    by_case false h = absurd (not_there h)

@@ -188,7 +188,7 @@ impl Held<'_> {
     }
 }
 
-// A part's number and a record.
+// A part's number and a record. Kept with the number: it is the array's first byte, and what asks for a part takes any number.
 #[derive(Clone, Copy)]
 pub struct Chip {
     pub part: u8,
@@ -297,7 +297,8 @@ pub fn part_of(state: &[u8]) -> u8
     state.first().copied().unwrap_or(0)
 }
 
-// What is wrong with the part, with a memory's length, or that no record in range is there.
+// What is wrong with the part, with a memory's length, or that no record in range is there. Kept, two lengths side by side: a struct of them would be made
+// only to be taken apart.
 pub fn refusal(part: u64, eeprom: usize, id: usize, there: bool) -> Result<(), Refusal>
     ensures { number_of result ≡ arrays_refusal part eeprom id there }
 {
@@ -316,7 +317,7 @@ pub fn chip_of(state: &[u8], eeprom: usize, id: usize) -> Result<Chip, Refusal>
     chip
 }
 
-// An answer with the levels of a record.
+// An answer with the levels of a record. Kept with its number: C reads it.
 pub fn put_answer(number: u8, reply: Option<u8>, count: u64, d: Device, into: &mut [u64; ANSWER])
     ensures { into.new ≡ answer_of number reply count d }
 {

@@ -9,7 +9,7 @@ use arrays::{ANSWER, Chip, STATE};
 use record::Act;
 
 // One act by its number, with its argument. The answer: the refusal number, whether SO drives, what it drives, the count, both levels.
-// Kept with its numbers: C reads them.
+// Kept with its numbers and slices: C lends and reads them.
 pub fn mcp795_act(
     state: &mut [u8],
     eeprom: &mut [u8],

@@ -1,6 +1,7 @@
 #![tactic(auto)]
 
 // The chip for a caller in another language, but its acts, which are in `calls`: a fresh chip, its text, and a chip from text. C calls it by `export_c`.
+// Kept with its numbers and slices: C lends and reads them.
 ghost use Rattle.std.specs.Prelude.{◌≡◌, []};
 ghost use Rattle.arrays.specs.Arrays.{arrays};
 ghost use Rattle.saved.specs.Answer.{load_line};
