@@ -1,6 +1,6 @@
 -- The chip of a state array: by the array's length, else by the tests of code.
 -- Assumes nothing.
-use mathlib.Core.Path.{◌≡◌, refl, sym, ap, ◌∙◌}
+use mathlib.Core.Path.{◌≡◌, sym, ap, ◌∙◌}
 use mathlib.Core.Logic.{◌≢◌}
 use mathlib.Core.Bool.{Bool, true, false, not, ◌||◌}
 use mathlib.Core.List.{List}
@@ -12,7 +12,7 @@ use Rattle.std.specs.Result.{is_ok}
 use Rattle.base.specs.Words.{pick}
 use Rattle.base.proofs.Tests.{by_cases, yes, no}
 use Rattle.record.specs.Part.{is_part}
-use Rattle.refusals.specs.Refusal.{number_of, wrong_length, first_refusal}
+use Rattle.refusals.specs.Refusal.{number_of, wrong_length}
 use Rattle.record.specs.declared.Device.{Device}
 use Rattle.record.specs.World.{Bytes}
 use Rattle.refusals.specs.declared.Refusal.{Refusal}
