@@ -155,7 +155,7 @@ pub fn startup_limit(part: u64, seconds: u64) -> u64
     if runs { 33 } else { 1 }
 }
 
-// By the number of power.
+// By the number of power. Kept beside `kind_limit`, as `address_limit` beside `target_limit`: each is a row of the form with a definition of its own.
 pub fn mark_limit(power: u64) -> u64
     ensures { result ≡ mark_by (eqb power 1) }
 {
@@ -174,6 +174,7 @@ pub fn period(v: u64) -> u64
     registers::period((v % 8) as u8) as u64
 }
 
+// Kinds and cases are numbers here: they are judged before it is known that they are any.
 // A number as a byte; FFh, which is the number of no kind and no case, for one that is none.
 fn byte_of(n: u64) -> u8
     ensures { result ≡ pick (ltb n 256) n 255 }

@@ -1,4 +1,5 @@
 // The four parts: 1 W 1K, 2 W 2K, 3 B 1K, 4 B 2K.
+// Kept as a number: an act may bring any, and the table refuses what is no part (A33); the definitions answer for each.
 ghost use Rattle.std.specs.Prelude.{◌≡◌};
 ghost use Rattle.record.specs.Part.{is_part, top_of, size_of, boots_of};
 

@@ -110,6 +110,7 @@ impl Target {
 }
 
 impl Place {
+    // Kept beside `writing_code`: each arm of the two is a row of the sheet's table, and no constant makes one of the other.
     fn reading_code(self) -> Code
         ensures { result ≡ reading_code self }
     {
