@@ -1,7 +1,7 @@
 -- Laws of a buffer that texts are put into: one after the other they are their join; the room that is left; and a loop that puts a text byte by
 -- byte.
 -- Assumes nothing.
-use mathlib.Core.Path.{◌≡◌, refl, sym, ap, ◌∙◌}
+use mathlib.Core.Path.{◌≡◌, sym, ap, ◌∙◌}
 use mathlib.Core.List.{List, [], ◌∷◌, ◌++◌}
 use Prim.Native.Nat.{ℕ, suc, ◌+◌, ◌-◌, ◌<◌, ◌≤◌}
 use native.Mathlib.Nat.{add-zero, add-suc, suc-add, add_assoc}
@@ -53,11 +53,6 @@ pub room_append : (o : Buffer) (t : List ℕ) → room_in (append o t) ≡ room_
 unfolding append
 room_append o t = rw (length-sets o.bytes o.at t) (omega arith)
 
--- an element, and a text between two places
-pub append_one : {A : Type 0} (l : List A) (at : ℕ) (a : A) → buffer (set l at a) (at + 1) ≡ append (buffer l at) (a ∷ [])
-unfolding append
-append_one l at a = refl
-
 -- a loop that puts elements one by one
 pub sets_more :
     (l : List ℕ) (at : ℕ) (s : List ℕ) (i : ℕ) → i < length s
@@ -74,6 +69,7 @@ pub append_all :
 unfolding append
 append_all l m at s i n e = rw (e, n, take-length s)
 
+-- a text between two places
 pub put_between :
     {A : Type 0} (at : ℕ) (m l s : List A) → m ≡ s → at + length s ≤ length l
     → buffer (put_mid at (at + length s - at) l m) (at + length s) ≡ append (buffer l at) s
