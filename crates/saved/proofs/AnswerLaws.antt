@@ -44,7 +44,8 @@ use Rattle.form.proofs.SavedLaws.{loads_text}
 use Rattle.numbers.specs.Tables.{number_limit}
 use Rattle.numbers.proofs.ChipLaws.{reach}
 use Rattle.record.specs.Fresh.{fresh}
-use Rattle.saved.specs.Reading.{reading, Got, complete}
+use Rattle.saved.specs.Reading.{Reading, reading, Got, text_read, complete}
+use Rattle.saved.proofs.ReadingLaws.{complete_at}
 use Rattle.saved.specs.Place.{TextRead}
 use Rattle.saved.proofs.RowLaws.{text_reads}
 
@@ -172,42 +173,31 @@ unfolding append
 put_over room m text at h e =
     ap (λ (o : Buffer). o.bytes) e ∙ sets-eq text room 0 h ∙ ap (λ (n : ℕ). text ++ drop n room) (zero-add (length text))
 
--- What loading answers.
-module _ (text : List ℕ) (part : ℕ) (w : World) (m : List ℕ) (at lines count : ℕ) (stopped : Bool) (t : TextRead text m (reading (drop at text) lines stopped) count) where
+-- What loading answers: a bad line, and a text that was read.
+pub load_stopped : (text : List ℕ) (part : ℕ) (w : World) (t : List ℕ) (n : ℕ) → reading t n true ≡ (text_read text).after → loading 8 (n + 1) part w ≡ loads text part w
+unfolding loads complete
+load_stopped text part w t n e =
+    let g = text_reads text ∙ ap (λ (s : Reading). pick (complete s) (loaded (text_read text).numbers) (bad (suc s.lines))) (sym e) in
+    sym (ap (λ (l : Loaded (List ℕ)). load_answer l part w) g ∙ ap (λ (k : ℕ). loading 8 k part w) (sym (add-one n)))
+
+module _ (text : List ℕ) (part : ℕ) (w : World) (m : List ℕ) (at lines count : ℕ) (t : TextRead text m (reading (drop at text) lines false) count) where
   abbrev ns : List ℕ
   ns = take count m
 
-  Gives : load chip_form text ≡ pick (complete (reading (drop at text) lines stopped)) (loaded ns) (bad (suc lines))
+  Gives : load chip_form text ≡ pick (complete (reading (drop at text) lines false)) (loaded ns) (bad (suc lines))
   Gives = text_reads text ∙ ap (λ (g : Got). pick (complete g.after) (loaded g.numbers) (bad (suc g.after.lines))) (sym t.whole)
 
-  pub load_bad : (stopped || ltb at (length text)) ≡ true → loading 8 (lines + 1) part w ≡ loads text part w
-  unfolding loads complete
+  pub load_bad : at < length text → loading 8 (lines + 1) part w ≡ loads text part w
+  unfolding loads
   load_bad h =
-      let c : complete (reading (drop at text) lines stopped) ≡ false = not_whole in
+      let c : complete (reading (drop at text) lines false) ≡ false = complete_at text at lines false true (lt-ltb at (length text) h) in
       sym
       (ap (λ (l : Loaded (List ℕ)). load_answer l part w) (Gives ∙ sym (no (loaded ns) (bad (suc lines)) c))
       ∙ ap (λ (n : ℕ). loading 8 n part w) (sym (add-one lines)))
-    where
-      other : {p q : Bool} → p ≡ false → (p || q) ≡ true → q ≡ true
-      other e g = rw e at g
 
-      longer : {n : ℕ} → n ≡ length text - at → at < length text → n ≢ 0
-      longer e l z = omega (arith, e, l, z)
-
-      not_whole : (not stopped && eqb (length (drop at text)) 0) ≡ false
-      not_whole =
-          by_cases stopped (λ s. rw s)
-          (λ s.
-          let l : at < length text = ltb-true at (length text) (other s h) in
-          rw (s, ne_eqb (length (drop at text)) 0 (longer (length-drop at text) l)))
-
-  module _ (h : (stopped || ltb at (length text)) ≡ false) where
+  module _ (h : length text ≤ at) where
     whole : load chip_form text ≡ loaded ns
-    unfolding complete
-    whole = Gives ∙ sym (yes (loaded ns) (bad (suc lines)) (both_true (ap not (neither_left stopped (ltb at (length text)) h)) (eq-eqb (length (drop at text)) 0 (none (length-drop at text)))))
-      where
-        none : {n : ℕ} → n ≡ length text - at → n ≡ 0
-        none e = omega (arith, e, ltb-false at (length text) (neither_right stopped (ltb at (length text)) h))
+    whole = Gives ∙ sym (yes (loaded ns) (bad (suc lines)) (complete_at text at lines false false (le-ltb at (length text) h)))
 
     pub chip_read : IsChip ns
     chip_read = (loads_text text ns whole).0
@@ -286,19 +276,19 @@ pub record ListRead (text l ee id : List ℕ) : Type 0 where
       → loading 0 0 (part_in l) (world d' ee' id') ≡ loads text part (world d ee id)
 
 pub list_read :
-    (text m : List ℕ) (at lines count : ℕ) (stopped : Bool) → TextRead text m (reading (drop at text) lines stopped) count → (stopped || ltb at (length text)) ≡ false
+    (text m : List ℕ) (at lines count : ℕ) → TextRead text m (reading (drop at text) lines false) count → length text ≤ at
     → (l ee id : List ℕ) → l ≡ take count m → ListRead text l ee id
-list_read text m at lines count stopped t h l ee id f =
+list_read text m at lines count t h l ee id f =
     let w = world fresh ee id in
     subst (λ (y : List ℕ). ListRead text y ee id) (sym f)
     (record {
-      some = past (reach _ (record_read text 0 w m at lines count stopped t h));
-      facts = record_read text 0 w m at lines count stopped t h;
-      events = events_read text 0 w m at lines count stopped t h;
-      misfit = λ e part d. load_misfit text part (world d ee id) m at lines count stopped t h e;
-      eeprom = λ e. eeprom_there text 0 w m at lines count stopped t h e;
-      ids = λ e. id_there text 0 w m at lines count stopped t h e;
-      done = λ e a b c k q x y z part d. load_done text part (world d ee id) m at lines count stopped t h e a b c k q x y z;
+      some = past (reach _ (record_read text 0 w m at lines count t h));
+      facts = record_read text 0 w m at lines count t h;
+      events = events_read text 0 w m at lines count t h;
+      misfit = λ e part d. load_misfit text part (world d ee id) m at lines count t h e;
+      eeprom = λ e. eeprom_there text 0 w m at lines count t h e;
+      ids = λ e. id_there text 0 w m at lines count t h e;
+      done = λ e a b c k q x y z part d. load_done text part (world d ee id) m at lines count t h e a b c k q x y z;
     })
   where
     past : {n : ℕ} → 123 ≤ n → 0 < n

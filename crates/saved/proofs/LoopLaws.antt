@@ -7,9 +7,9 @@ use Prim.Native.Nat.{ℕ, zero, suc, ◌+◌, ◌-◌, ◌*◌, ◌/◌, ◌<◌
 use native.Mathlib.Nat.{add-zero, zero-add, zero-mul, suc-mul}
 use native.Mathlib.Numerals.{add-one}
 use native.Mathlib.Omega.{arith}
-use borrow.Author.Tests.{eqb-true, ltb-true, ltb-false, leb-true}
+use borrow.Author.Tests.{eqb-true, ltb-true, ltb-false, leb-true, lt-ltb, le-ltb}
 use lib.Dec.{eqb, ltb, leb}
-use lib.ListN.{length, take, drop, get_or, set, replicate, length-append, length-replicate, get_or-append, get_or-eq_default}
+use lib.ListN.{length, take, drop, get_or, set, replicate, length-append, length-replicate, get_or-append, get_or-eq_default, take-append-drop}
 use lib.Seq.{take_at, take_all, take-suc, drop-cons, set_at, append_snoc, get_or-append-add, length-take-le}
 use Rattle.base.specs.Words.{pick, bit, every}
 use Rattle.base.proofs.Tests.{by_cases, yes, no, pick_case}
@@ -24,8 +24,11 @@ use Rattle.form.specs.Lines.{head_of}
 use Rattle.form.specs.Table.{Row, span, part_in, case_good, value_limit, target_limit, edges_by, since_by, debounce_by, chip_events, stage_good, target_good, key_of, good_after, zeros_after, older_rows, event_rows, later_groups, in_groups, rows, part_row, register_row, sram_row, divider_row, startup_row, watchdog_row, delay_row, pulse_row, power_row, mark_row, wel_row, protection_row, lock_row, stage_row, offsets_row, load_row, next_row, target_row, left_row, eeprom_row, id_row, evls_row, evhs_row, edges_row, since_row, debounce_row}
 use Rattle.numbers.specs.Tables.{row_at, row_count, number_limit}
 use Rattle.numbers.proofs.TableLaws.{widths, line_counts, lines_by, row_width, row_lines_lem}
-use Rattle.saved.specs.Reading.{Reading, reading, past_word, number_at, past_number, Got, got, settled, mark_after, run_of, line_read, row_read, rows_read, groups_read, text_read}
-use Rattle.saved.specs.Place.{filled, Holds, RowRead, rows_in, most, RowsRead, TextRead}
+use Rattle.saved.specs.Reading.{Reading, reading, past_word, number_at, past_number, Got, got, settled, mark_after, run_of, line_read, row_read, rows_read, groups_read, text_read, readable, complete}
+use Rattle.std.specs.Prelude.{Result, Ok, Err, IfOk, IfErr, IsErrAnd}
+use Rattle.saved.specs.declared.Bad.{Bad}
+use Rattle.saved.specs.declared.read.Read.{Read}
+use Rattle.saved.specs.Place.{reading_at, stopped_at, filled, Holds, RowRead, rows_in, most, RowsRead, TextRead}
 use Rattle.saved.proofs.ReadingLaws.{word_lines, number_lines, complete_at}
 use Rattle.saved.proofs.RowLaws.{run_length}
 
@@ -72,6 +75,26 @@ pub filled_start : (b : List ℕ) → take (length b) (filled b) ≡ b
 unfolding filled
 filled_start b = take_at b (replicate (400 - length b) 0) (length b) refl
 
+-- numbers 0 behind a list are there already
+pub filled_zeros : (b : List ℕ) (k : ℕ) → length b + k ≤ number_limit → filled b ≡ filled (b ++ replicate k 0)
+unfolding filled
+filled_zeros b k h =
+    let long : length (b ++ replicate k 0) ≡ length b + k = length-append b (replicate k 0) ∙ ap (λ (n : ℕ). length b + n) (length-replicate k 0) in
+    let split : 400 - length b ≡ k + (400 - (length b + k)) = parts (length b) h in
+    ap (λ (n : ℕ). b ++ replicate n 0) split
+    ∙ ap (λ (x : List ℕ). b ++ x) (more k (400 - (length b + k)))
+    ∙ sym (append_assoc b (replicate k 0) (replicate (400 - (length b + k)) 0))
+    ∙ ap (λ (n : ℕ). (b ++ replicate k 0) ++ replicate (400 - n) 0) (sym long)
+  where
+    parts : (n : ℕ) → n + k ≤ 400 → 400 - n ≡ k + (400 - (n + k))
+    parts n p = omega (arith, p)
+
+    more : (i j : ℕ) → ◌≡◌ {A = List ℕ} (replicate (i + j) 0) (replicate i 0 ++ replicate j 0)
+    more zero j = ap (λ (n : ℕ). replicate n 0) (zero-add j)
+    more (suc i) j =
+        let e : suc i + j ≡ suc (i + j) = omega arith in
+        ap (λ (n : ℕ). replicate n 0) e ∙ ap (λ (x : List ℕ). 0 ∷ x) (more i j)
+
 -- What a row says of a number goes by what is read at places.
 abbrev pub Alike : List ℕ → List ℕ → Type 0
 Alike m b = (k : ℕ) → get_or m k 0 ≡ get_or b k 0
@@ -114,6 +137,55 @@ good_alike (suc (suc (suc (suc (suc (suc (suc (suc (suc (suc (suc (suc (suc (suc
 good_alike (suc (suc (suc (suc (suc (suc (suc (suc (suc (suc (suc (suc (suc (suc (suc (suc (suc (suc (suc (suc (suc (suc (suc (suc zero)))))))))))))))))))))))) m b e j n = (λ q. ltb n (since_by (get_or m (123 + size_of (e 0 q) + 16 + 2) 0))) ∙ ap (λ (v : ℕ). ltb n (since_by v)) (e (chip_events b + 2))
 good_alike (suc (suc (suc (suc (suc (suc (suc (suc (suc (suc (suc (suc (suc (suc (suc (suc (suc (suc (suc (suc (suc (suc (suc (suc (suc zero))))))))))))))))))))))))) m b e j n = (λ q. ltb n (debounce_by (e 12 q) (get_or m (123 + size_of (e 0 q) + 16) 0))) ∙ ap (λ (v : ℕ). ltb n (debounce_by (get_or b 12 0) v)) (e (chip_events b))
 good_alike (suc (suc (suc (suc (suc (suc (suc (suc (suc (suc (suc (suc (suc (suc (suc (suc (suc (suc (suc (suc (suc (suc (suc (suc (suc (suc i)))))))))))))))))))))))))) m b e j n = refl
+
+-- an error that `?` hands on is the one that it met
+pub handed : {A : Type 0} (o : Result A Bad) (e : Bad) → IsErrAnd o (λ x. x ≡ e) → o ≡ Err e
+handed (Ok x) e h = elim h [ ]
+handed (Err x) e h = ap Err h
+
+-- so what it says of a bad line stays
+pub stopped_on :
+    {A : Type 0} (text : List ℕ) (s : Reading) (o : Result A Bad) (e : Bad) → IsErrAnd o (λ x. x ≡ e)
+    → (stopped_at text e ≡ s) × (e.place.lines ≤ number_limit) → IfErr o (λ x. (stopped_at text x ≡ s) × (x.place.lines ≤ number_limit))
+stopped_on text s o e h k =
+    subst (λ (r : Result _ Bad). IfErr r (λ x. (stopped_at text x ≡ s) × (x.place.lines ≤ number_limit))) (sym (handed o e h)) k
+
+-- A reading that has stopped stays where it is, and every number is 0.
+pub run_still : (c : ℕ) (t : List ℕ) (n : ℕ) → run_of c (reading t n true) ≡ got (replicate c 0) (reading t n true)
+unfolding run_of number_at past_number readable past_word
+run_still zero t n = refl
+run_still (suc c) t n = ap (λ (g : Got). got (0 ∷ g.numbers) g.after) (run_still c t n)
+
+run_stopped :
+    (c : ℕ) (s : Reading) (t : List ℕ) (n : ℕ) → 0 ≡ number_at s → reading t n true ≡ past_number s → run_of (suc c) s ≡ got (replicate (suc c) 0) (reading t n true)
+unfolding run_of past_word
+run_stopped c s t n v e =
+    (λ q. got (sym v q ∷ (run_of c (past_word (mark_after c ∷ []) (sym e q))).numbers) (run_of c (past_word (mark_after c ∷ []) (sym e q))).after)
+    ∙ ap (λ (g : Got). got (0 ∷ g.numbers) g.after) (run_still c t n)
+
+line_still : (r : Row) (i : ℕ) (b : List ℕ) (t : List ℕ) (n : ℕ) → (line_read r i (got b (reading t n true))).after ≡ reading t n true
+unfolding line_read past_word settled
+line_still r i b t n =
+    ap (λ (x : Got). settled (good_after r b (i * r.width) x.numbers) x.after) (run_still r.width t n)
+
+row_still : (r : Row) (c i : ℕ) (g : Got) (t : List ℕ) (n : ℕ) → g.after ≡ reading t n true → (row_read r c i g).after ≡ reading t n true
+unfolding row_read
+row_still r zero i g t n e = e
+row_still r (suc c) i g t n e =
+    row_still r c (suc i) (line_read r i g) t n (ap (λ (s : Reading). (line_read r i (got g.numbers s)).after) e ∙ line_still r i g.numbers t n)
+
+rows_still : (rs : List Row) (g : Got) (t : List ℕ) (n : ℕ) → g.after ≡ reading t n true → (rows_read rs g).after ≡ reading t n true
+unfolding rows_read
+rows_still [] g t n e = e
+rows_still (r ∷ rs) g t n e = rows_still rs (row_read r (r.lines g.numbers) 0 g) t n (row_still r (r.lines g.numbers) 0 g t n e)
+
+groups_still : (gs : List (List Row)) (g : Got) (t : List ℕ) (n : ℕ) → g.after ≡ reading t n true → (groups_read gs g).after ≡ reading t n true
+unfolding groups_read complete
+groups_still [] g t n e = e
+groups_still (rs ∷ gs) g t n e =
+    ap (λ (x : Got). x.after)
+    (sym (no (got (g.numbers ++ zeros_after (in_groups (rs ∷ gs)) g.numbers) g.after) (groups_read gs (rows_read rs g)) (ap complete e)))
+    ∙ groups_still gs (rows_read rs g) t n (rows_still rs g t n e)
 
 -- The numbers of a line, one after the other.
 after_snoc : (r : Row) (b : List ℕ) (j : ℕ) (x : List ℕ) (n : ℕ) → good_after r b j (x ++ (n ∷ [])) ≡ good_after r b j x && r.good (b ++ x) (j + length x) n
@@ -219,6 +291,44 @@ module _ (r : Row) (b : List ℕ) (first w : ℕ) (s₀ : Reading) where
       short : {a c : ℕ} → a ≡ w → c ≡ w → a ≤ c
       short p q = omega (arith, p, q)
 
+  -- a bad line ends them: what has not come is 0
+  went_bad :
+      (j : ℕ) (s : Reading) (good : Bool) (m t : List ℕ) (n : ℕ) → Went j s good m → j ≤ w → length b + w ≤ number_limit
+      → run_of (w - j) s ≡ got (replicate (w - j) 0) (reading t n true)
+      → (m ≡ filled (b ++ all)) × (reading t n true ≡ settled (good_after r b first all) (run_of w s₀).after)
+  unfolding settled
+  went_bad j s good m t n g h room e =
+      let both = sym g.left ∙ e in
+      let rest : drop j all ≡ replicate (w - j) 0 = ap (λ (x : Got). x.numbers) both in
+      let end : (run_of w s₀).after ≡ reading t n true = ap (λ (x : Got). x.after) both in
+      let taken : length (take j all) ≡ j = length-take-le j all (subst (λ (k : ℕ). j ≤ k) (sym (run_length w s₀)) h) in
+      let long : length (b ++ take j all) ≡ length b + j = length-append b (take j all) ∙ ap (λ (k : ℕ). length b + k) taken in (
+        g.list
+            ∙ filled_zeros (b ++ take j all) (w - j) (fits (length b) long h room)
+            ∙ ap filled
+            (append_assoc b (take j all) (replicate (w - j) 0)
+            ∙ ap (λ (x : List ℕ). b ++ x) (ap (λ (x : List ℕ). take j all ++ x) (sym rest) ∙ take-append-drop j all)),
+        ap (settled (good_after r b first all)) (sym end),
+      )
+    where
+      fits : (c : ℕ) {a : ℕ} → a ≡ c + j → j ≤ w → c + w ≤ 400 → a + (w - j) ≤ 400
+      fits c p q u = omega (arith, p, q, u)
+
+  pub number_bad :
+      (j : ℕ) (s : Reading) (good : Bool) (m t : List ℕ) (n : ℕ) → Went j s good m → j < w → length b + w ≤ number_limit
+      → 0 ≡ number_at s → reading t n true ≡ past_number s
+      → (m ≡ filled (b ++ all)) × (reading t n true ≡ settled (good_after r b first all) (run_of w s₀).after)
+  number_bad j s good m t n g h room v e =
+      let o : suc (w - (j + 1)) ≡ w - j = omega (arith, h) in
+      went_bad j s good m t n g (omega (arith, h)) room
+      (subst (λ (k : ℕ). run_of k s ≡ got (replicate k 0) (reading t n true)) o (run_stopped (w - (j + 1)) s t n v e))
+
+  pub mark_bad :
+      (j : ℕ) (good : Bool) (m t : List ℕ) (n : ℕ) → Went (j + 1) (reading t n true) good m → j < w → length b + w ≤ number_limit
+      → (m ≡ filled (b ++ all)) × (reading t n true ≡ settled (good_after r b first all) (run_of w s₀).after)
+  mark_bad j good m t n g h room =
+      went_bad (j + 1) (reading t n true) good m t n g (omega (arith, h)) room (run_still (w - (j + 1)) t n)
+
 -- how many numbers an array holds
 pub held_long : (m : List ℕ) (count : ℕ) → Holds m count → count ≤ number_limit → length (take count m) ≡ count
 held_long m count h l = length-take-le count m (subst (λ (n : ℕ). count ≤ n) (sym h.long) l)
@@ -282,8 +392,21 @@ unfolding run_of
 run_lines zero s = refl
 run_lines (suc c) s = run_lines c (past_word (mark_after c ∷ []) (past_number s)) ∙ word_lines (mark_after c ∷ []) (past_number s) ∙ number_lines s
 
-pub lines_kept : (c : ℕ) (w : List ℕ) (s t u : Reading) → t ≡ past_word w s → u ≡ (run_of c t).after → u.lines ≡ s.lines
-lines_kept c w s t u e f = ap (λ (r : Reading). r.lines) f ∙ run_lines c t ∙ ap (λ (r : Reading). r.lines) e ∙ word_lines w s
+pub went_lines :
+    (r : Row) (b : List ℕ) (first w : ℕ) (s₀ : Reading) (j : ℕ) (s : Reading) (good : Bool) (m : List ℕ) → Went r b first w s₀ j s good m → s.lines ≡ s₀.lines
+went_lines r b first w s₀ j s good m g = sym (run_lines (w - j) s) ∙ ap (λ (x : Got). x.after.lines) g.left ∙ run_lines w s₀
+
+settled_lines : (t : Bool) (s : Reading) → (settled t s).lines ≤ s.lines + 1
+unfolding settled
+settled_lines t s = pick_case (λ (x : Reading). x.lines ≤ s.lines + 1) (s.stopped || not t) (omega arith) (omega arith)
+
+line_more : (r : Row) (i : ℕ) (g : Got) → (line_read r i g).after.lines ≤ g.after.lines + 1
+unfolding line_read
+line_more r i g =
+    let h = head_of (key_of r i) in
+    let x = run_of r.width (past_word h g.after) in
+    subst (λ (k : ℕ). (settled (good_after r g.numbers (i * r.width) x.numbers) x.after).lines ≤ k + 1)
+    (run_lines r.width (past_word h g.after) ∙ word_lines h g.after) (settled_lines (good_after r g.numbers (i * r.width) x.numbers) x.after)
 
 -- the whole line
 pub line_is :
@@ -294,14 +417,24 @@ line_is r i w b head s t e h f {m} g =
     g ∙ ap (λ (x : List ℕ). filled (b ++ x)) (λ q. (run_of (e q) ((f ∙ ap (λ (l : List ℕ). past_word l s) h) q)).numbers)
 
 pub line_ends :
-    (r : Row) (i w : ℕ) (b head : List ℕ) (s t u v : Reading) (good : Bool) → w ≡ r.width → head ≡ head_of (key_of r i) → t ≡ past_word head s
-    → u ≡ (run_of w t).after → good ≡ good_after r b (i * w) (run_of w t).numbers → v ≡ settled good u → v ≡ (line_read r i (got b s)).after
+    (r : Row) (i w : ℕ) (b head : List ℕ) (s t v : Reading) → w ≡ r.width → head ≡ head_of (key_of r i) → t ≡ past_word head s
+    → v ≡ settled (good_after r b (i * w) (run_of w t).numbers) (run_of w t).after → v ≡ (line_read r i (got b s)).after
 unfolding line_read
-line_ends r i w b head s t u v good e h f g k l =
+line_ends r i w b head s t v e h f l =
     let p = f ∙ ap (λ (x : List ℕ). past_word x s) h in
-    l
-    ∙ (λ q. settled (k q) (g q))
-    ∙ (λ q. settled (good_after r b (i * e q) (run_of (e q) (p q)).numbers) (run_of (e q) (p q)).after)
+    l ∙ (λ q. settled (good_after r b (i * e q) (run_of (e q) (p q)).numbers) (run_of (e q) (p q)).after)
+
+-- a line that is bad at its head
+pub head_bad :
+    (r : Row) (i w : ℕ) (b head : List ℕ) (s : Reading) (m t : List ℕ) (n : ℕ) → w ≡ r.width → head ≡ head_of (key_of r i) → reading t n true ≡ past_word head s
+    → m ≡ filled b → length b + w ≤ number_limit → (m ≡ filled (line_read r i (got b s)).numbers) × (reading t n true ≡ (line_read r i (got b s)).after)
+unfolding line_read settled
+head_bad r i w b head s m t n e h f g room =
+    let p : past_word (head_of (key_of r i)) s ≡ reading t n true = sym (f ∙ ap (λ (x : List ℕ). past_word x s) h) in
+    let x : run_of r.width (past_word (head_of (key_of r i)) s) ≡ got (replicate r.width 0) (reading t n true) = ap (run_of r.width) p ∙ run_still r.width t n in (
+      g ∙ filled_zeros b r.width (subst (λ (k : ℕ). length b + k ≤ 400) e room) ∙ ap (λ (y : Got). filled (b ++ y.numbers)) (sym x),
+      ap (λ (y : Got). settled (good_after r b (i * r.width) y.numbers) y.after) (sym x),
+    )
 
 pub line_long : (r : Row) (i : ℕ) (g : Got) → length (line_read r i g).numbers ≡ length g.numbers + r.width
 unfolding line_read
@@ -332,10 +465,9 @@ module _ (r : Row) (n : ℕ) (g : Got) where
 
   pub rows_more :
       (i at : ℕ) (m : List ℕ) (s : Reading) (m' : List ℕ) (s' : Reading) → i < n → at + r.width ≤ number_limit → 0 < r.width → Rows i at m s
-      → m' ≡ filled (line_read r i (got (take at m) s)).numbers → s' ≡ (line_read r i (got (take at m) s)).after → s'.lines ≤ s.lines + 1
-      → Rows (i + 1) (at + r.width) m' s'
+      → m' ≡ filled (line_read r i (got (take at m) s)).numbers → s' ≡ (line_read r i (got (take at m) s)).after → Rows (i + 1) (at + r.width) m' s'
   unfolding row_read
-  rows_more i at m s m' s' h room wide o e f k =
+  rows_more i at m s m' s' h room wide o e f =
       let b = got (take at m) s in
       let x = (line_read r i b).numbers in
       let here : length (take at m) ≡ at = held_long m at o.list (less r.width room) in
@@ -349,7 +481,7 @@ module _ (r : Row) (n : ℕ) (g : Got) where
             ∙ sym (ap (λ (c : ℕ). row_read r c i b) one)
             ∙ o.left;
         counted = step (length g.numbers) (i * r.width) r.width o.counted (suc-mul i r.width) (ap (λ (c : ℕ). c * r.width) (add-one i));
-        fewer = more at s.lines s'.lines r.width o.fewer k wide;
+        fewer = more at s.lines s'.lines r.width o.fewer (subst (λ (x : Reading). x.lines ≤ s.lines + 1) (sym f) (line_more r i b)) wide;
       }
     where
       less : {a : ℕ} (c : ℕ) → a + c ≤ 400 → a ≤ 400
@@ -363,10 +495,27 @@ module _ (r : Row) (n : ℕ) (g : Got) where
 
   pub rows_step :
       (v : ℕ) → v ≡ r.width → (i at : ℕ) (m : List ℕ) (s : Reading) (m' : List ℕ) (s' : Reading) → i < n → at + r.width ≤ number_limit → 0 < r.width
-      → Rows i at m s → m' ≡ filled (line_read r i (got (take at m) s)).numbers → s' ≡ (line_read r i (got (take at m) s)).after → s'.lines ≤ s.lines + 1
-      → Rows (i + 1) (at + v) m' s'
-  rows_step v w i at m s m' s' h room wide o e f k =
-      subst (λ (z : ℕ). Rows (i + 1) (at + z) m' s') (sym w) (rows_more i at m s m' s' h room wide o e f k)
+      → Rows i at m s → m' ≡ filled (line_read r i (got (take at m) s)).numbers → s' ≡ (line_read r i (got (take at m) s)).after → Rows (i + 1) (at + v) m' s'
+  rows_step v w i at m s m' s' h room wide o e f =
+      subst (λ (z : ℕ). Rows (i + 1) (at + z) m' s') (sym w) (rows_more i at m s m' s' h room wide o e f)
+
+  -- a bad line among them
+  pub row_bad :
+      (i at : ℕ) (m : List ℕ) (s : Reading) (t : List ℕ) (k : ℕ) → i < n → at + r.width ≤ number_limit → 0 < r.width → n ≡ r.lines g.numbers → Rows i at m s
+      → reading t k true ≡ (line_read r i (got (take at m) s)).after → (reading t k true ≡ (row_read r (r.lines g.numbers) 0 g).after) × (k ≤ number_limit)
+  unfolding row_read
+  row_bad i at m s t k h room wide l o e =
+      let b = got (take at m) s in
+      let one : n - i ≡ suc (n - (i + 1)) = omega (arith, h) in (
+        sym (row_still r (n - (i + 1)) (suc i) (line_read r i b) t k (sym e))
+            ∙ sym (ap (λ (c : ℕ). (row_read r c i b).after) one)
+            ∙ ap (λ (x : Got). x.after) o.left
+            ∙ ap (λ (c : ℕ). (row_read r c 0 g).after) l,
+        few s.lines r.width o.fewer (subst (λ (x : Reading). x.lines ≤ s.lines + 1) (sym e) (line_more r i b)) wide room,
+      )
+    where
+      few : (c v : ℕ) → c ≤ at → k ≤ c + 1 → 0 < v → at + v ≤ 400 → k ≤ 400
+      few c v p q z u = omega (arith, p, q, z, u)
 
   pub rows_all : (i at : ℕ) (m : List ℕ) (s : Reading) → i ≡ n → n ≡ r.lines g.numbers → Rows i at m s → RowRead r g m s at
   unfolding row_read
@@ -506,6 +655,18 @@ module _ (first end : ℕ) (g : Got) where
       room : {a c g : ℕ} (f : ℕ) → a ≤ c → c + f ≤ g → g ≤ 400 → a + f ≤ 400
       room f p q u = omega (arith, p, q, u)
 
+  -- a bad line among them
+  pub reads_bad :
+      (i count : ℕ) (m : List ℕ) (s : Reading) (t : List ℕ) (k : ℕ) → i < end → end ≤ row_count → Reads i count m s
+      → reading t k true ≡ (row_read (row_at i) ((row_at i).lines (take count m)) 0 (got (take count m) s)).after
+      → reading t k true ≡ (rows_read (rows_in first end) g).after
+  unfolding rows_read
+  reads_bad i count m s t k h l o e =
+      let b = got (take count m) s in
+      sym (rows_still (rows_in (i + 1) end) (row_read (row_at i) ((row_at i).lines (take count m)) 0 b) t k (sym e))
+      ∙ sym (ap (λ (rs : List Row). (rows_read rs b).after) (rows_first i end h l))
+      ∙ ap (λ (x : Got). x.after) o.left
+
   pub reads_all : (i count : ℕ) (m : List ℕ) (s : Reading) → i ≡ end → Reads i count m s → RowsRead (rows_in first end) end g m s count
   unfolding rows_read rows_in
   reads_all i count m s e t =
@@ -521,30 +682,10 @@ module _ (first end : ℕ) (g : Got) where
 pub none_held : (m : List ℕ) → m ≡ filled [] → Holds m 0
 none_held m e = subst (λ (l : List ℕ). Holds l 0) (sym e) (holds [] 0 refl (omega arith))
 
--- numbers 0 behind a list are there already
-filled_zeros : (b : List ℕ) (k : ℕ) → length b + k ≤ number_limit → filled b ≡ filled (b ++ replicate k 0)
-unfolding filled
-filled_zeros b k h =
-    let long : length (b ++ replicate k 0) ≡ length b + k = length-append b (replicate k 0) ∙ ap (λ (n : ℕ). length b + n) (length-replicate k 0) in
-    let split : 400 - length b ≡ k + (400 - (length b + k)) = parts (length b) h in
-    ap (λ (n : ℕ). b ++ replicate n 0) split
-    ∙ ap (λ (x : List ℕ). b ++ x) (more k (400 - (length b + k)))
-    ∙ sym (append_assoc b (replicate k 0) (replicate (400 - (length b + k)) 0))
-    ∙ ap (λ (n : ℕ). (b ++ replicate k 0) ++ replicate (400 - n) 0) (sym long)
-  where
-    parts : (n : ℕ) → n + k ≤ 400 → 400 - n ≡ k + (400 - (n + k))
-    parts n p = omega (arith, p)
-
-    more : (i j : ℕ) → ◌≡◌ {A = List ℕ} (replicate (i + j) 0) (replicate i 0 ++ replicate j 0)
-    more zero j = ap (λ (n : ℕ). replicate n 0) (zero-add j)
-    more (suc i) j =
-        let e : suc i + j ≡ suc (i + j) = omega arith in
-        ap (λ (n : ℕ). replicate n 0) e ∙ ap (λ (x : List ℕ). 0 ∷ x) (more i j)
-
 -- A whole text: it ends before the event inputs, or they are read.
-module _ (text : List ℕ) (m : List ℕ) (at lines count : ℕ) (stopped : Bool) where
+module _ (text : List ℕ) (m : List ℕ) (at lines count : ℕ) where
   abbrev s : Reading
-  s = reading (drop at text) lines stopped
+  s = reading (drop at text) lines false
 
   abbrev begun : Got
   begun = got [] (reading text 0 false)
@@ -556,6 +697,11 @@ module _ (text : List ℕ) (m : List ℕ) (at lines count : ℕ) (stopped : Bool
   events_are : rows_in 21 26 ≡ event_rows chip_events
   unfolding rows_in rows
   events_are = refl
+
+  -- a bad line in the rows before them
+  pub older_bad : (t : List ℕ) (k : ℕ) → reading t k true ≡ (rows_read (rows_in 0 21) begun).after → reading t k true ≡ (text_read text).after
+  older_bad t k e =
+      sym (groups_still later_groups (rows_read older_rows begun) t k (ap (λ (rs : List Row). (rows_read rs begun).after) (sym older_is) ∙ sym e))
 
   -- what is read of the rows before them
   first_read : RowsRead (rows_in 0 21) 21 begun m s count → rows_read older_rows begun ≡ got (take count m) s
@@ -569,11 +715,11 @@ module _ (text : List ℕ) (m : List ℕ) (at lines count : ℕ) (stopped : Bool
     unfolding most
     few_read = r.few
 
-    pub text_ended : (stopped || ltb at (length text)) ≡ false → TextRead text m s (count + 5)
+    pub text_ended : length text ≤ at → TextRead text m s (count + 5)
     unfolding groups_read zeros_after evls_row evhs_row edges_row since_row debounce_row
     text_ended t =
         let b = take count m in
-        let c = complete_at text at lines stopped false t in
+        let c = complete_at text at lines false false (le-ltb at (length text) t) in
         let here : length b ≡ count = held_long m count r.list (under few_read) in
         let full : m ≡ filled (b ++ replicate 5 0) = r.list.list ∙ filled_zeros b 5 (room here few_read) in
         let long : length (b ++ replicate 5 0) ≡ count + 5 = length-append b (replicate 5 0) ∙ ap (λ (n : ℕ). n + 5) here in
@@ -600,12 +746,12 @@ module _ (text : List ℕ) (m : List ℕ) (at lines count : ℕ) (stopped : Bool
         up p = omega (arith, p)
 
     pub text_on :
-        (m' : List ℕ) (s' : Reading) (count' : ℕ) → (stopped || ltb at (length text)) ≡ true → RowsRead (rows_in 21 26) 26 (got (take count m) s) m' s' count'
+        (m' : List ℕ) (s' : Reading) (count' : ℕ) → at < length text → RowsRead (rows_in 21 26) 26 (got (take count m) s) m' s' count'
         → TextRead text m' s' count'
     unfolding groups_read most
     text_on m' s' count' t q =
         let b = take count m in
-        let c = complete_at text at lines stopped true t in
+        let c = complete_at text at lines false true (lt-ltb at (length text) t) in
         record {
           list = q.list;
           whole =
@@ -616,3 +762,30 @@ module _ (text : List ℕ) (m : List ℕ) (at lines count : ℕ) (stopped : Bool
           few = q.few;
           fewer = q.fewer;
         }
+
+    -- a bad line in theirs
+    pub events_bad :
+        (t : List ℕ) (k : ℕ) → at < length text → reading t k true ≡ (rows_read (rows_in 21 26) (got (take count m) s)).after
+        → reading t k true ≡ (text_read text).after
+    unfolding groups_read
+    events_bad t k l e =
+        let b = take count m in
+        let c = complete_at text at lines false true (lt-ltb at (length text) l) in
+        e
+        ∙ ap (λ (rs : List Row). (rows_read rs (got b s)).after) events_are
+        ∙ ap (λ (x : Got). x.after) (no (got (b ++ zeros_after (in_groups later_groups) b) s) (rows_read (event_rows chip_events) (got b s)) c ∙ sym text_is)
+
+    -- what code answers that reads them
+    pub events_read :
+        (m' : List ℕ) (o : Result Read Bad) → at < length text
+        → IfOk o (λ x. RowsRead (rows_in 21 26) 26 (got (take count m) s) m' (reading_at text x.place) x.count)
+        → IfOk o (λ x. TextRead text m' (reading_at text x.place) x.count)
+    events_read m' (Ok x) l h = text_on m' (reading_at text x.place) x.count l h
+    events_read m' (Err e) l h = h
+
+    pub events_stopped :
+        (o : Result Read Bad) → at < length text
+        → IfErr o (λ x. (stopped_at text x ≡ (rows_read (rows_in 21 26) (got (take count m) s)).after) × (x.place.lines ≤ number_limit))
+        → IfErr o (λ x. (stopped_at text x ≡ (text_read text).after) × (x.place.lines ≤ number_limit))
+    events_stopped (Ok x) l h = h
+    events_stopped (Err x) l h = (events_bad (drop x.place.at text) x.place.lines l h.0, h.1)

@@ -1,12 +1,13 @@
 -- Laws of the scan: its pieces as code has them are those of a reading.
 -- Assumes nothing.
 use mathlib.Core.Path.{◌≡◌, refl, sym, ap, ◌∙◌}
+use mathlib.Core.Logic.{◌≢◌}
 use mathlib.Core.Bool.{Bool, true, false, not, ◌&&◌, ◌||◌}
 use mathlib.Core.List.{List, [], ◌∷◌}
 use Prim.Native.Nat.{ℕ, zero, suc, ◌+◌, ◌<◌, ◌≤◌, suc-le-suc}
 use native.Mathlib.Omega.{arith}
 use native.Mathlib.Numerals.{add-one}
-use borrow.Author.Tests.{eqb-true, eqb-false, ne_eqb, lt-ltb, ltb-true, ltb-false, leb-true, le-leb, le-ltb, not-true, not-false}
+use borrow.Author.Tests.{eq-eqb, eqb-true, eqb-false, ne_eqb, lt-ltb, ltb-true, ltb-false, leb-true, le-leb, le-ltb, not-true, not-false}
 use lib.Dec.{eqb, ltb, leb}
 use lib.ListN.{length, take, drop}
 use lib.Seq.{take_all, drop-drop, length-take-le}
@@ -25,19 +26,16 @@ agreed_within (w ∷ word) (b ∷ s) = pick_case (λ (n : ℕ). n ≤ suc (lengt
 
 -- past a word, or stopped
 pub word_stops :
-    (w text : List ℕ) (at k n : ℕ) (b : Bool) → n ≡ agreed w (drop at text) → (b || not (eqb n (length w))) ≡ true
-    → reading (drop at text) k true ≡ past_word w (reading (drop at text) k b)
+    (w text : List ℕ) (at k n : ℕ) → n ≡ agreed w (drop at text) → n ≢ length w → reading (drop at text) k true ≡ past_word w (reading (drop at text) k false)
 unfolding past_word
-word_stops w text at k n b e t = yes (reading (drop at text) k true) _ (ap (λ (i : ℕ). b || not (eqb i (length w))) (sym e) ∙ t)
+word_stops w text at k n e t = yes (reading (drop at text) k true) _ (ap (λ (i : ℕ). not (eqb i (length w))) (sym e) ∙ ap not (ne_eqb n (length w) t))
 
 pub word_goes :
-    (w text : List ℕ) (at k n : ℕ) (b : Bool) → n ≡ agreed w (drop at text) → (b || not (eqb n (length w))) ≡ false
-    → reading (drop (at + n) text) k false ≡ past_word w (reading (drop at text) k b)
+    (w text : List ℕ) (at k n : ℕ) → n ≡ agreed w (drop at text) → n ≡ length w → reading (drop (at + n) text) k false ≡ past_word w (reading (drop at text) k false)
 unfolding past_word
-word_goes w text at k n b e f =
-    let l : n ≡ length w = eqb-true n (length w) (not-false (eqb n (length w)) (neither_right b (not (eqb n (length w))) f)) in
+word_goes w text at k n e l =
     ap (λ (t : List ℕ). reading t k false) (sym (drop-drop n at text) ∙ ap (λ (i : ℕ). drop i (drop at text)) l)
-    ∙ no (stop (reading (drop at text) k b)) _ (ap (λ (i : ℕ). b || not (eqb i (length w))) (sym e) ∙ f)
+    ∙ no (stop (reading (drop at text) k false)) _ (ap (λ (i : ℕ). not (eqb i (length w))) (sym e) ∙ ap not (eq-eqb n (length w) l))
 
 -- a number that can be read, and one that cannot
 module _ (s : Reading) where
@@ -93,18 +91,18 @@ module _ (s : Reading) where
       take_all read_limit digits (omega (arith, size_is, h))
 
 -- past a number, or stopped: how many digits lead, and the digits, as code has them
-module _ (text : List ℕ) (at k n : ℕ) (d : List ℕ) (b t : Bool) (e : n ≡ leading digit (drop at text)) (q : d ≡ take n (drop at text)) (z : t ≡ needless_zero d) where
+module _ (text : List ℕ) (at k n : ℕ) (d : List ℕ) (t : Bool) (e : n ≡ leading digit (drop at text)) (q : d ≡ take n (drop at text)) (z : t ≡ needless_zero d) where
   abbrev here : Reading
-  here = reading (drop at text) k b
+  here = reading (drop at text) k false
 
   abbrev tested : Bool
-  tested = b || eqb n 0 || t || ltb 8 n
+  tested = eqb n 0 || t || ltb 8 n
 
   digits_are : d ≡ digits here
   digits_are = q ∙ ap (λ (i : ℕ). take i (drop at text)) e
 
   test_is : tested ≡ refused here
-  test_is i = b || eqb (e i) 0 || (z ∙ ap needless_zero digits_are) i || ltb 8 (e i)
+  test_is i = eqb (e i) 0 || (z ∙ ap needless_zero digits_are) i || ltb 8 (e i)
 
   pub number_stops : tested ≡ true → (0 ≡ number_at here) × (reading (drop at text) k true ≡ past_number here)
   unfolding number_at past_number
@@ -123,13 +121,13 @@ module _ (text : List ℕ) (at k n : ℕ) (d : List ℕ) (b t : Bool) (e : n ≡
             ∙ yes (reading (drop (size here) (drop at text)) k false) (stop here) r,
       )
 
-pub settle_stops : (s : Reading) (t : Bool) → (s.stopped || not t) ≡ true → stop s ≡ settled t s
+pub settle_stops : (text : List ℕ) (k : ℕ) (t : Bool) → t ≡ false → reading text k true ≡ settled t (reading text k false)
 unfolding settled
-settle_stops s t e = yes (stop s) _ e
+settle_stops text k t e = yes (reading text k true) _ (ap not e)
 
-pub settle_goes : (s : Reading) (t : Bool) → (s.stopped || not t) ≡ false → reading s.text (s.lines + 1) false ≡ settled t s
+pub settle_goes : (text : List ℕ) (k : ℕ) (t : Bool) → t ≡ true → reading text (k + 1) false ≡ settled t (reading text k false)
 unfolding settled
-settle_goes s t e = ap (λ (n : ℕ). reading s.text n false) (add-one s.lines) ∙ no (stop s) _ e
+settle_goes text k t e = ap (λ (n : ℕ). reading text n false) (add-one k) ∙ no (reading text k true) _ (ap not e)
 
 -- the byte after a number
 pub comma_after : (c : ℕ) → 0 < c → comma ≡ mark_after c

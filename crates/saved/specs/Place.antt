@@ -1,13 +1,32 @@
--- A place in a text as the reading that it stands for; and the list of numbers in a lent array, 0 where none has come.
+-- A place in a text, or a bad line, as the reading that it stands for; and the list of numbers in a lent array, 0 where none has come.
 -- Assumes nothing.
-use Rattle.std.specs.Prelude.{ℕ, ◌+◌, ◌-◌, ◌≤◌, List, [], ◌∷◌, ◌++◌, ◌≡◌, length, take, drop, get_or, replicate}
+use Rattle.std.specs.Prelude.{ℕ, ◌+◌, ◌-◌, ◌≤◌, List, [], ◌∷◌, ◌++◌, ◌≡◌, length, take, drop, get_or, replicate, true, false, Result, Ok, Err}
 use Rattle.numbers.specs.Tables.{number_limit}
 use Rattle.saved.specs.declared.Place.{Place}
+use Rattle.saved.specs.declared.Bad.{Bad}
+use Rattle.saved.specs.declared.scan.Found.{Found}
 use Rattle.form.specs.Table.{Row, span, rows}
 use Rattle.saved.specs.Reading.{Reading, reading, Got, got, row_read, rows_read, text_read}
 
 abbrev pub reading_at : List ℕ → Place → Reading
-reading_at text p = reading (drop p.at text) p.lines p.stopped
+reading_at text p = reading (drop p.at text) p.lines false
+
+abbrev pub stopped_at : List ℕ → Bad → Reading
+stopped_at text e = reading (drop e.place.at text) e.place.lines true
+
+-- what code answers that reads on: the place after it, or a bad line
+abbrev pub reading_of : List ℕ → Result Place Bad → Reading
+reading_of text (Ok p) = reading_at text p
+reading_of text (Err e) = stopped_at text e
+
+-- the same of a number
+abbrev pub number_found : Result Found Bad → ℕ
+number_found (Ok f) = f.value
+number_found (Err e) = 0
+
+abbrev pub after_number : List ℕ → Result Found Bad → Reading
+after_number text (Ok f) = reading_at text f.place
+after_number text (Err e) = stopped_at text e
 
 unfoldable pub filled : List ℕ → List ℕ
 filled b = b ++ replicate (number_limit - length b) 0

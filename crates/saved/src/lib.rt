@@ -21,13 +21,17 @@ mod scan; // scan.rt: a text read from left to right
 // Room for the longest text.
 const TEXT_ROOM: usize = 8000;
 
-// A place in a text, the good lines so far, and whether a bad line was met.
-// Kept with its flag: the definitions that the clauses equal read on behind a bad line (`Reading`, `text_read`).
+// A place in a text, and the good lines before it.
 #[derive(Clone, Copy)]
 pub struct Place {
     pub at: usize,
     pub lines: usize,
-    pub stopped: bool,
+}
+
+// A line is bad: how far it was read.
+#[derive(Clone, Copy)]
+pub struct Bad {
+    pub place: Place,
 }
 
 // Why a chip is not saved.
@@ -115,9 +119,12 @@ pub fn load(text: &[u8], eeprom: &mut [u8], id: &mut [u8]) -> Result<Loaded, Loa
     ensures { (part : ℕ) (device : Device) → loading_of result part (world device eeprom.new id.new) ≡ loads text.now part (world device eeprom.old id.old) }
 {
     let mut numbers = [0u64; table::NUMBERS];
-    let read = read::read_rows(text, &mut numbers);
+    let read = match read::read_rows(text, &mut numbers) {
+        Ok(read) => read,
+        Err(bad) => return Err(LoadError::BadLine(bad.place.lines + 1)),
+    };
     let place = read.place;
-    if place.stopped | (place.at < text.len()) {
+    if place.at < text.len() {
         return Err(LoadError::BadLine(place.lines + 1));
     }
     let list = bytes::first(&numbers, read.count);

@@ -10,7 +10,7 @@ use Rattle.numbers.specs.Tables.{row_place, row_of}
 use Rattle.numbers.proofs.TableLaws.{row_in}
 use Rattle.saved.specs.Reading.{got}
 use Rattle.saved.specs.Place.{reading_at}
-use Rattle.saved.proofs.LoopLaws.{rows_none, rows_step, rows_all, lines_are, lines_most, width_most, line_fits, held_long}
+use Rattle.saved.proofs.LoopLaws.{rows_none, rows_step, rows_all, row_bad, stopped_on, lines_are, lines_most, width_most, line_fits, held_long}
 use Rattle.saved.proofs.read.read_row.Goals as goal
 
 less : {m : ℕ} (s : ℕ) → m + s ≤ 400 → m ≤ 400
@@ -30,8 +30,8 @@ loop-i-init c =
     let k = held_long a.numbers.now a.count o (less (span r b) h.numbers_bound) in
     rows_none r c.lines-lines.result (got b x) a.numbers.now a.count x o refl k h.lines_le_count
 
-pub read_line-place-requires : goal.read_line-place-requires
-read_line-place-requires c =
+pub read_line-requires : goal.read_line-requires
+read_line-requires c =
     let a = c.args in
     let h = c.requires in
     let o = h.holds in
@@ -65,16 +65,27 @@ loop-i-preserved c =
     let l = c.loop-i in
     let t = c.loop-i-test.true in
     let w = c.width-width in
-    let d = c.read_line-place in
+    let d = c.in_ok-place.ensures in
     let n = lines_are (row_place c.args.row) _ c.args.numbers.now c.args.count (row_in c.args.row) c.requires.holds c.lines-lines.ensures in
     let m =
     line_fits (row_place c.args.row) _ c.args.numbers.now c.args.count c.loop-i.i c.loop-i.at c.requires.holds n c.requires.numbers_bound c.loop-i-test.true
     c.loop-i.invariant.counted in
     let v = rows_step (row_of a.row) c.lines-lines.result (got (take a.count a.numbers.now) (reading_at x a.p))
     w.result w.ensures l.i l.at l.numbers (reading_at x l.place) _
-    (reading_at x d.result) t m (width_most (row_place a.row) (row_in a.row)).0 l.invariant d.ensures.numbers_after
-    d.ensures.result_value d.ensures.lines_bound in
+    _ t m (width_most (row_place a.row) (row_in a.row)).0 l.invariant d.numbers_after d.result_value in
     v
+
+pub returns-in_err-place-clause-bad : goal.returns-in_err-place-clause-bad
+returns-in_err-place-clause-bad c =
+    let a = c.args in
+    let x = a.text.now in
+    let l = c.loop-i in
+    let n = lines_are (row_place a.row) _ a.numbers.now a.count (row_in a.row) c.requires.holds c.lines-lines.ensures in
+    let m =
+    line_fits (row_place a.row) _ a.numbers.now a.count l.i l.at c.requires.holds n c.requires.numbers_bound c.loop-i-test.true l.invariant.counted in
+    stopped_on x _ _ _ c.from_residual.ensures.1
+    (row_bad (row_of a.row) c.lines-lines.result (got (take a.count a.numbers.now) (reading_at x a.p)) l.i l.at l.numbers (reading_at x l.place) _ _ c.loop-i-test.true m
+    (width_most (row_place a.row) (row_in a.row)).0 n l.invariant c.in_err-place.ensures.result_value)
 
 pub returns : goal.returns
 returns c =
@@ -83,5 +94,6 @@ returns c =
     let x = a.text.now in
     let n = lines_are (row_place a.row) _ a.numbers.now a.count (row_in a.row) h.holds c.lines-lines.ensures in
     let l = c.loop-i in
-    rows_all (row_of a.row) c.lines-lines.result (got (take a.count a.numbers.now) (reading_at x a.p)) l.i l.at l.numbers
-    (reading_at x l.place) (omega arith) n l.invariant
+    let r = rows_all (row_of a.row) c.lines-lines.result (got (take a.count a.numbers.now) (reading_at x a.p)) l.i l.at l.numbers
+    (reading_at x l.place) (omega arith) n l.invariant in
+    record { read = r; bad = tt }

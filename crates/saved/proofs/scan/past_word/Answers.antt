@@ -7,11 +7,11 @@ use Rattle.text.specs.Bytes.{agreed}
 use Rattle.saved.proofs.ScanLaws.{agreed_within, word_stops, word_goes}
 use Rattle.saved.proofs.scan.past_word.Goals as goal
 
-pub returns-then-p-whole : goal.returns-then-p-whole
-returns-then-p-whole c =
+pub returns-then-n-word : goal.returns-then-n-word
+returns-then-n-word c =
     let a = c.args in
     let e = c.agreement-n.ensures ∙ ap (agreed a.word.now) c.rest.ensures in
-    word_stops a.word.now a.text.now a.p.at a.p.lines _ a.p.stopped e c.if-p-whole.true
+    word_stops a.word.now a.text.now a.p.at a.p.lines _ e c.if-n-word.true
 
 pub overflow_add-result : goal.overflow_add-result
 overflow_add-result c =
@@ -23,4 +23,4 @@ pub returns : goal.returns
 returns c =
     let a = c.args in
     let e = c.agreement-n.ensures ∙ ap (agreed a.word.now) c.rest.ensures in
-    word_goes a.word.now a.text.now a.p.at a.p.lines _ a.p.stopped e c.if-p-whole.false
+    word_goes a.word.now a.text.now a.p.at a.p.lines _ e c.if-n-word.false
