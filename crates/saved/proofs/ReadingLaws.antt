@@ -1,5 +1,5 @@
--- Laws of a reading: to read the next line, judge it and go on gives what the rest of the form gives from here. So code that reads line after line
--- without a branch has the form's answer at its end.
+-- Laws of a reading: to read the next line, judge it and go on gives what the rest of the form gives from here. So to read line after line, with no
+-- branch at a bad one, gives the form's answer at its end.
 -- Assumes nothing.
 use mathlib.Core.Path.{◌≡◌, refl, sym, ap, ◌∙◌}
 use mathlib.Core.Bool.{Bool, true, false, not, ◌&&◌, ◌||◌, or-true}

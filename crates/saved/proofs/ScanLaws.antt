@@ -7,7 +7,7 @@ use mathlib.Core.List.{List, [], ◌∷◌}
 use Prim.Native.Nat.{ℕ, zero, suc, ◌+◌, ◌<◌, ◌≤◌, suc-le-suc}
 use native.Mathlib.Omega.{arith}
 use native.Mathlib.Numerals.{add-one}
-use borrow.Author.Tests.{eq-eqb, eqb-true, eqb-false, ne_eqb, lt-ltb, ltb-true, ltb-false, leb-true, le-leb, le-ltb, not-true, not-false}
+use borrow.Author.Tests.{eq-eqb, eqb-false, ne_eqb, lt-ltb, ltb-true, ltb-false, leb-true, le-leb, le-ltb, not-true}
 use lib.Dec.{eqb, ltb, leb}
 use lib.ListN.{length, take, drop}
 use lib.Seq.{take_all, drop-drop, length-take-le}

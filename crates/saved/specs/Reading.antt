@@ -1,6 +1,6 @@
--- How code reads a text: from left to right in one pass, with no branch at a bad line. A reading that has gone bad stays so and moves no more; what is
--- read then is 0 and means nothing. In code a reading is a place in the text, the number of good lines so far, and a flag. It is no rule: ReadingLaws tie it to
--- the form.
+-- A text read from left to right in one pass, with no branch at a bad line. A reading that has gone bad stays so and moves no more; what is read then is 0
+-- and means nothing. In code a reading is a place in the text with the number of good lines so far, or an error with the place where it went
+-- bad; then code reads no further (Place). It is no rule: ReadingLaws tie it to the form.
 -- Assumes nothing.
 use Rattle.std.specs.Prelude.{ℕ, zero, suc, ◌*◌, Bool, true, false, not, ◌&&◌, ◌||◌, List, [], ◌∷◌, ◌++◌, leb, eqb, length, take, drop}
 use Rattle.base.specs.Words.{pick}

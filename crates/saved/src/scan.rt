@@ -24,10 +24,7 @@ pub fn past_word(text: &[u8], p: Place, word: &[u8]) -> Result<Place, Bad>
     if n != word.len() {
         return Err(Bad { place: p });
     }
-    Ok(Place {
-        at: p.at + n,
-        lines: p.lines,
-    })
+    Ok(Place { at: p.at + n, ..p })
 }
 
 // Past a byte.
@@ -50,10 +47,7 @@ pub fn number_at(text: &[u8], p: Place) -> Result<Found, Bad>
         return Err(Bad { place: p });
     }
     let value = decimal::value_of(digits);
-    let place = Place {
-        at: p.at + n,
-        lines: p.lines,
-    };
+    let place = Place { at: p.at + n, ..p };
     Ok(Found { value, place })
 }
 
@@ -66,8 +60,8 @@ pub fn settle(p: Place, good: bool) -> Result<Place, Bad>
         return Err(Bad { place: p });
     }
     Ok(Place {
-        at: p.at,
         lines: p.lines + 1,
+        ..p
     })
 }
 

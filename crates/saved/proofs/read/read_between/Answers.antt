@@ -58,9 +58,11 @@ returns-in_err-read-clause-bad c =
     let g = got (take a.count a.numbers.now) (reading_at x a.p) in
     let d = c.in_err-read.ensures.bad in
     let e = row_here _ l.i (omega (arith, h, q.end_le_row_count)) in
-    stopped_on x _ _ _ c.from_residual.ensures.1
-    (reads_bad a.first a.end g l.i l.at l.numbers s _ _ h q.end_le_row_count l.invariant
-    (d.0 ∙ ap (λ (r : Row). (row_read r (r.lines (take l.at l.numbers)) 0 (got (take l.at l.numbers) s)).after) e), d.1)
+    stopped_on x _ _ _ c.from_residual.ensures.1 (
+      reads_bad a.first a.end g l.i l.at l.numbers s _ _ h q.end_le_row_count l.invariant
+          (d.0 ∙ ap (λ (r : Row). (row_read r (r.lines (take l.at l.numbers)) 0 (got (take l.at l.numbers) s)).after) e),
+      d.1,
+    )
 
 pub returns : goal.returns
 returns c =
