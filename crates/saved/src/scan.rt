@@ -9,7 +9,7 @@ use text::{Kind, bytes, decimal};
 // The most digits of a number.
 const DIGIT_LIMIT: usize = 8;
 
-// A number read, and the place after it; 0 where there is none, as the definition has it.
+// A number read, and the place after it.
 #[derive(Clone, Copy)]
 pub struct Found {
     pub value: u64,
