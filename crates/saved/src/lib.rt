@@ -22,6 +22,7 @@ mod scan; // scan.rt: a text read from left to right
 const TEXT_ROOM: usize = 8000;
 
 // A place in a text, and the good lines before it.
+// The text stays a parameter beside it: with both in one struct each function would have to promise that the text in its answer is the one it was given.
 #[derive(Clone, Copy)]
 pub struct Place {
     pub at: usize,
