@@ -33,6 +33,7 @@ pub fn is_ready(part: u64, d: Device) -> bool
 
 // The three that follow ask for room for an answer: a buffer is lent in any length, and its place moves on, so no type says it (D230).
 // T6, T7. A line `op=part`: the first of a part that there is makes a fresh chip.
+// Memories and buffer stay parameters here and below (D230).
 fn part_line(
     arg: u64,
     p: Progress,

@@ -28,6 +28,7 @@ impl Progress {
     }
 
     // Puts an answer's line, whatever the memories hold.
+    // The number is what the line shows (D227); room is asked as in `answers` (D230).
     pub(crate) fn told(self, number: u8, out: Option<u64>, into: &mut [u8]) -> Progress
         requires { self.at + answer_room ≤ length into.old }
         ensures { (ee id : List ℕ) → shown_by result ee id into.new

@@ -1,3 +1,4 @@
 pub mod TestLaws
 pub mod ArrayLaws
 pub mod ChipLaws
+pub mod ByLaws

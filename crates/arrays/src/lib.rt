@@ -291,6 +291,7 @@ impl From<Chip> for [u8; STATE] {
 }
 
 // The first byte, 0 where there is none.
+// 0 is no part, so its refusal is 3, as the definition has it.
 pub fn part_of(state: &[u8]) -> u8
     ensures { result ≡ part_of state.now }
 {

@@ -27,7 +27,10 @@ pub fn out_of(number: u8, act: Act, reply: Option<u8>, count: u64) -> Option<u64
     if shows_count(act) {
         return Some(count);
     }
-    reply.map(u64::from)
+    let Some(b) = reply else {
+        return None;
+    };
+    Some(u64::from(b))
 }
 
 // Puts a word and what it shows.

@@ -17,6 +17,7 @@ pub const LONG_DEBOUNCE: u16 = 16384;
 pub const WINDOW_TICKS: u16 = 8192;
 
 // The number of edges that makes an event.
+// Kept beside the watchdog's `period`: a table and a type of its own.
 pub fn number(v: u8) -> u8
     ensures { result ≡ number_of v }
 {

@@ -34,6 +34,7 @@ fn count_after(k: u8, d: Device) -> u32
 }
 
 // The device after an end with k leftover bits.
+// Three functions hand on the top address, the bits and the record; a struct would be made for that alone.
 #[tactic(auto, unfolding(crate::specs::End::after_end))]
 pub fn after_end(top: EepromAddress, k: u8, d: Device) -> Device
     ensures { result ≡ after_end top.0 k d }

@@ -89,6 +89,7 @@ pub fn cycle_after(top: EepromAddress, k: u8, d: Device) -> Cycle
 }
 
 // A code that acts on the latch does so.
+// Kept beside `cleared_by`: two rules, F19 and F20.
 fn latched_by(code: Code, k: u8, stage: Stage) -> bool
     ensures { result ≡ latches code k stage }
 {

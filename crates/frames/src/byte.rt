@@ -121,6 +121,7 @@ fn load_after(load: Load, v: u8, stage: Stage) -> Load
 }
 
 // WRITE stores each byte as it comes.
+// Two functions hand on what the part tells, the record and the byte; a struct would be made for that alone.
 fn written_at(boots: bool, d: Device, v: u8, stage: Stage) -> Device
     ensures { result ≡ written_at boots d v stage }
 {

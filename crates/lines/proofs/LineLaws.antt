@@ -206,6 +206,15 @@ not_bad : (q : Result Request Fault) (number column : ℕ) → is_bad q ≡ fals
 not_bad (Ok x) number column b e = e
 not_bad (Err f) number column b e = true≢false b
 
+-- a request is bad with one number, at one column
+bad_number_lem : (q : Result Request Fault) (m n c d : ℕ) → Bad q m c → Bad q n d → m ≡ n
+bad_number_lem (Ok x) m n c d b e = absurd b
+bad_number_lem (Err f) m n c d b e = sym b.0 ∙ e.0
+
+bad_column : (q : Result Request Fault) (m n c d : ℕ) → Bad q m c → Bad q n d → c ≡ d
+bad_column (Ok x) m n c d b e = absurd b
+bad_column (Err f) m n c d b e = sym b.1 ∙ e.1
+
 -- the first fault is that of the first row
 first_told :
     (rows : List LineRow) (fs : List (Bool × Fault)) (q : Result Request Fault) (number column : ℕ) → Sure rows fs q

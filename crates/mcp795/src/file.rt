@@ -36,6 +36,7 @@ pub(crate) fn open_read(rt: HostRuntime, name: &[u8]) -> io::Result<File> {
 }
 
 // Opens a file to be read and written.
+// Kept beside `create`: they differ in the options, and one function would be handed those.
 fn open_update(rt: HostRuntime, name: &[u8]) -> io::Result<File> {
     let mut options = OpenOptions::new();
     options.read(true).write(true);

@@ -117,6 +117,7 @@ fn events_of(numbers: &[u64], from: usize) -> Events
 }
 
 // The record of a list that begins with the numbers of one and has its event inputs at a place.
+// README names it: its contract stays.
 pub fn device_of(numbers: &[u64], from: usize) -> Device
     requires record_facts { RecordFacts numbers.now }
     requires event_facts { EventFacts from numbers.now }
@@ -192,6 +193,7 @@ fn event_numbers(e: Events) -> [u64; 5]
 
 // Bytes put into a list of numbers; the place after them is answered.
 // An index: the contract speaks of the places of both lists.
+// Buffer and place stay two parameters here and below (D230).
 fn put_bytes(from: &[u8], into: &mut [u64], at: usize) -> usize
     requires { at + length from.now ≤ length into.old }
     ensures { buffer into.new result ≡ append (buffer into.old at) from.now }

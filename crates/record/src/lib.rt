@@ -148,6 +148,7 @@ pub struct Load {
 }
 
 // The write cycle; with 0 ticks left there is none.
+// No `Option`: the target stays when the cycle is over, and the saved form has both always.
 #[derive(Clone, Copy)]
 pub struct Cycle {
     pub target: Target,

@@ -9,6 +9,7 @@ use crate::{Act, Pin, Protection};
 pub const ACTS: u8 = 8;
 
 // The acts in their order. It answers for any number; a number that has no act is told by `try_from`.
+// Kept: what could not fail still cannot (D234).
 pub fn act_of(n: u8) -> Act
     ensures { result ≡ act_of n }
 {

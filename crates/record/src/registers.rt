@@ -137,6 +137,7 @@ pub fn is_oscon(c: Counters) -> bool
 }
 
 // VBATEN is set.
+// Kept beside `vbat_set`: the test of a bit is the definition's as it stands.
 pub fn battery_enabled(regs: [u8; 32]) -> bool
     ensures { result ≡ vbaten regs }
 {

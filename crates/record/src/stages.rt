@@ -5,6 +5,7 @@ ghost use Rattle.record.specs.Stages.{selected, heard, reading_code, writing_cod
 use crate::{ClockAddress, Code, Long, Pair, Place, Stage, Target};
 
 // Where there is no pointer: clock address 00h, which is never judged.
+// No `Option`: callers ask for one memory's pointer, and 0 passes every limit; `frame_place` has it so.
 const NO_PLACE: Place = Place::ClockAt(ClockAddress(0));
 
 impl Stage {

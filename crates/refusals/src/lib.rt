@@ -78,6 +78,7 @@ fn wrong_select(act: Act, selected: bool) -> Result<(), Refusal>
 }
 
 // What is wrong with the part and the memories' lengths, before any record is seen.
+// The part is a number (A33, D235), and two lengths are no struct: it would be made only to be taken apart.
 pub fn memory_refusal(part: u64, eeprom: usize, id: usize) -> Result<(), Refusal>
     ensures { number_of result ≡ memory_refusal part eeprom id }
 {

@@ -30,6 +30,7 @@ fn reading_reply(eeprom: &[u8], id: &[u8], d: Device, place: Place) -> Option<u8
 }
 
 // What the next exchange answers at a stage.
+// Two memories and a record: a struct of them would be made for these four alone, whose public two are asked as the acts are.
 fn reply_at(eeprom: &[u8], id: &[u8], d: Device, stage: Stage) -> Option<u8>
     requires { (eeprom_pointer (frame_place stage) < length eeprom.now) × (id_pointer (frame_place stage) < length id.now) }
     ensures { result ≡ reply_at eeprom.now id.now d stage }
@@ -50,6 +51,7 @@ pub fn next_reply(eeprom: &[u8], id: &[u8], d: Device) -> Option<u8>
 }
 
 // A38, G2. The first k bits of a reply, the most significant first.
+// `let else` and no `?`: D87 asks for that form.
 fn first_bits(k: u8, reply: Option<u8>) -> Option<u8>
     requires { k < 8 }
     ensures { result ≡ first_bits k reply }

@@ -21,6 +21,7 @@ fn is_numbered(row: Row) -> bool
     matches!(row, Row::Reg | Row::Sram | Row::Ee | Row::Id)
 }
 
+// Buffer and place stay two parameters (D230).
 fn put_index(numbered: bool, i: u64, into: &mut [u8], at: usize) -> usize
     requires at_in_bounds { at + 2 ≤ length into.old }
     requires i_bound { i < 100 }

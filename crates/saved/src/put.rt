@@ -13,6 +13,7 @@ use text::{buffer, bytes, decimal};
 
 // The numbers of a line, each with the byte after it.
 // An index: which byte follows goes by the place.
+// Buffer and place stay two parameters here and below (D230).
 fn put_numbers(numbers: &[u64], from: usize, width: usize, into: &mut [u8], at: usize) -> usize
     requires width_in_bounds { from + width ≤ length numbers.now }
     requires numbers_in_bounds { at + length (run_text (take width (drop from numbers.now))) ≤ length into.old }

@@ -1,2 +1,3 @@
 pub mod TapeLaws
 pub mod TurnLaws
+pub mod PieceLaws

@@ -34,6 +34,7 @@ pub fn start() -> Tape
 
 // A tape that begins with a chip that is there: its part and record, and the memories that are lent to each call. A part that is none, a record out
 // of range and memories of other sizes than a tape is lent are no chip: the tape then begins without a part.
+// Anyone calls it: slices of any length (D229).
 #[tactic(auto, unfolding(crate::specs::Tape::resumes))]
 pub fn resume(part: u64, device: Device, eeprom: &[u8], id: &[u8]) -> Tape
     ensures value { result ≡ resumed_tape part device (length eeprom.now) (length id.now) }
@@ -51,6 +52,7 @@ pub fn resume(part: u64, device: Device, eeprom: &[u8], id: &[u8]) -> Tape
 }
 
 // Adds a piece to the head of a line, as far as the head goes, and answers how long the head is.
+// That the head is short stays a clause here and below: one inequality on a number that anyone's tape brings.
 fn add_to_head(piece: &[u8], line: &mut [u8; HEAD_LIMIT], begun: usize) -> usize
     requires { begun ≤ head_limit }
     ensures { (result ≡ length (head (take begun line.old ++ piece.now)))
@@ -157,6 +159,7 @@ fn finish_line(
 // The door stands in both calls: a function that hands out the three references would have to promise of each that it is still the one lent (D230).
 // The answers to a chunk, put into a buffer from a place on. It stops before a newline whose answer may not have room, and answers how many
 // bytes it took. What is lent and not used stays as it was. Where it is no tape, nothing is taken or changed.
+// Anyone calls it: slices of any length (D229).
 #[tactic(auto, unfolding(crate::specs::Tape::feed_into, crate::specs::Tape::is_tape, crate::specs::Tape::buffers_fit))]
 pub fn feed(
     chunk: &[u8],
@@ -190,6 +193,7 @@ pub fn feed(
 }
 
 // The answer to a last line that has no newline. Where it is no tape or the answer has no room, nothing is changed.
+// Anyone calls it: slices of any length (D229).
 #[tactic(auto, unfolding(crate::specs::Tape::finish_into, crate::specs::Tape::is_tape, crate::specs::Tape::buffers_fit))]
 pub fn finish(
     tape: Tape,

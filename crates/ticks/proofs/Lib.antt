@@ -1,5 +1,6 @@
 pub mod LineLaws
 pub mod AlarmLaws
+pub mod WatchdogLaws
 pub mod ClockLaws
 pub mod KeepLaws
 pub mod RangeLaws
