@@ -14,6 +14,21 @@ pub struct Field {
     ghost fills_bits: { 256 % width ≡ 0 },
 }
 
+// K7, K8. The same for limits that anyone has, of a value that fills its byte: what asks nothing of its caller stays beside the type.
+pub fn valid_field(first: u8, last: u8, x: u8) -> bool
+    ensures { result ≡ valid_field first last x }
+{
+    let width = 256;
+    Field { first, last, width }.is_valid(x)
+}
+
+pub fn next_field(first: u8, last: u8, x: u8) -> Step<u8>
+    ensures { result ≡ next_field first last x }
+{
+    let width = 256;
+    Field { first, last, width }.next(x)
+}
+
 impl Field {
     // K7. Whether a value is valid.
     #[tactic(auto, unfolding(crate::specs::Field::valid_field))]
