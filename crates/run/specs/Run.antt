@@ -1,15 +1,14 @@
 -- A list of acts as slices: act codes, their arguments, and lent slices for the numbers answered and the ticks used. What the functions
 -- `run` and `run_from` give, refused or not.
 -- Assumes nothing.
-use Rattle.std.specs.Prelude.{ℕ, zero, suc, min, ◌≡◌, false, not, List, [], ◌∷◌, ◌++◌, ltb, length, Result, Ok, Err}
+use Rattle.std.specs.Prelude.{ℕ, zero, suc, min, ◌≡◌, List, [], ◌∷◌, ◌++◌, ltb, length, Result, Ok, Err}
 use Rattle.base.specs.Words.{pick, over}
 use Rattle.record.specs.declared.Device.{Device}
 use Rattle.record.specs.Fresh.{fresh}
 use Rattle.record.specs.Numbers.{act_of, act_count}
-use Rattle.record.specs.Part.{is_part}
 use Rattle.record.specs.World.{World, world, fresh_world}
 use Rattle.refusals.specs.declared.Refusal.{Refusal}
-use Rattle.refusals.specs.Refusal.{refusal_number, wrong_length, first_refusal, setup_refusal}
+use Rattle.refusals.specs.Refusal.{refusal_number, memory_refusal, setup_refusal}
 use Rattle.acts.specs.Act.{performed}
 use Rattle.ledger.specs.State.{Step, start}
 use Rattle.ledger.specs.Steps.{ledger_run}
@@ -17,9 +16,9 @@ use Rattle.run.specs.declared.Ran.{Ran}
 use Rattle.run.specs.Claim.{Input, Accounted, our_chip, world_after, told}
 use Rattle.run.specs.Begin.{ledger_of, AccountedFrom}
 
--- a run is refused by the first two rows of the table: 3 for a part that is none, 4 for a memory's length that is not the part's
+-- a run is refused by the first two rows of the table, before there is a record
 abbrev pub refuses_run : ℕ → ℕ → ℕ → ℕ
-refuses_run part ee id = first_refusal (not (is_part part)) (wrong_length part ee id) false false false 0
+refuses_run = memory_refusal
 
 -- the acts that are performed: the longest prefix for which there is an argument, room for both answers, and a code that names an act
 unfoldable pub inputs_of : List ℕ → List ℕ → ℕ → List Input
