@@ -65,7 +65,7 @@ outcome_done a ee id = outcome 0 a.reply a.count (world a.device ee id)
 -- what the code answers of any act on the record d, and the memories at its return, as one outcome: a refusal has no record of its own, and leaves d
 abbrev pub outcome_of : Device → Result Answer Refusal → List ℕ → List ℕ → Outcome
 outcome_of d (Ok a) ee id = outcome_done a ee id
-outcome_of d (Err r) ee id = refused (refusal_number r) (world d ee id)
+outcome_of d (Err r) ee id = outcome (refusal_number r) None 0 (world d ee id)
 
 -- an answer with no reply
 abbrev pub silent_answer : ℕ → Device → Answer

@@ -64,7 +64,8 @@ module _ (bs : List ℕ) (t : is_state bs ≡ true) where
   pub debounce_fits : count_at bs 139 < 65536
   debounce_fits = within (sym (event_at_lem bs l 4)) fit_events.debounce
 
-  -- the record of the array, place by place
+-- the record of an array, place by place
+module _ (bs : List ℕ) (l : length bs ≡ 142) where
   pub counters_by :
       {a b c d e : ℕ} → a ≡ count_at bs 97 → b ≡ count_at bs 100 → c ≡ count_at bs 103 → d ≡ count_at bs 106 → e ≡ count_at bs 109
       → record { divider = a; startup = b; watchdog = c; delay = d; pulse = e } ≡ (device_of (array_numbers bs)).counters

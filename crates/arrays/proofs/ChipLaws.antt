@@ -1,6 +1,6 @@
 -- The chip of a state array: by the array's length, else by the tests of code.
 -- Assumes nothing.
-use mathlib.Core.Path.{◌≡◌, sym, ap, ◌∙◌}
+use mathlib.Core.Path.{◌≡◌, refl, sym, ap, ◌∙◌}
 use mathlib.Core.Logic.{◌≢◌}
 use mathlib.Core.Bool.{Bool, true, false, not, ◌||◌}
 use mathlib.Core.List.{List}
@@ -41,6 +41,9 @@ module _ (bs ys : List ℕ) {a b e : Bool} (p : ys ≡ bs) (l : length bs ≡ 14
   pub bad : (a || b || e) ≡ true → Err Range ≡ chip_read bs
   bad f = none_in bs (sym judged ∙ ap not f)
 
+  pub none_held : (a || b || e) ≡ true → false ≡ is_state bs
+  none_held f = sym (ap not f) ∙ judged
+
 pub short : (bs : List ℕ) → length bs ≢ 142 → Err Range ≡ chip_read bs
 short bs n = none_in bs (sym (state_short bs n))
 
@@ -60,6 +63,14 @@ again_in bs ys p w t e =
     (λ i. state_of (get_or (p i) 0 0) ((e ∙ ap (λ (x : List ℕ). device_of (array_numbers x)) p) i))
     ∙ ap (λ (n : ℕ). state_of n (device_of (array_numbers bs))) (sym (low_at bs l 0 (omega arith)))
     ∙ array_again bs l w u
+
+-- The same of the chip as it is made of such bytes.
+module _ (bs ys : List ℕ) {c : Chip} (p : ys ≡ bs) (t : is_state ys ≡ true) (e : c ≡ chip_in ys) where
+  pub made_in : ◌≡◌ {A = Result Chip Refusal} (Ok c) (chip_read bs)
+  made_in = (λ i. Ok (e i)) ∙ some_in bs ys p t refl
+
+  pub made_again : Bytes bs → state_of c.part c.device ≡ bs
+  made_again w = (λ i. state_of (e i).part (e i).device) ∙ again_in bs ys p w t refl
 
 -- What is read where nothing is refused has the number of those arrays.
 pub read_told :

@@ -1,7 +1,7 @@
 #![tactic(auto)]
 
 // The arrays of a caller in another language: a state array judged, read and written; the numbers of an answer.
-ghost use Rattle.std.specs.Prelude.{◌≡◌, true, ◌++◌, ◌+◌, ◌≤◌, length, take, drop, IfOk};
+ghost use Rattle.std.specs.Prelude.{◌≡◌, true, ◌++◌, ◌+◌, ◌≤◌, length, take, drop, IfOk, IfSome, is_some};
 ghost use Rattle.refusals.specs.Refusal.{number_of};
 ghost use Rattle.form.specs.Chip.{device_of, tail_numbers};
 ghost use Rattle.form.specs.State.{count_at, count_bytes, counts_bytes, frame_bytes, event_bytes, array_numbers, is_state, state_of};
@@ -125,6 +125,22 @@ struct Held<'a> {
     ghost is_state: { is_state bytes.now ≡ true },
 }
 
+impl<'a> Held<'a> {
+    // None where the array is no chip's.
+    fn read(state: &'a [u8]) -> Option<Held<'a>>
+        ensures told { is_some result ≡ is_state state.now }
+        ensures same { IfSome result (λ held. held.bytes.now ≡ state.now) }
+    {
+        let Ok(bytes) = <&[u8; STATE]>::try_from(state) else {
+            return None;
+        };
+        if clock_bad(bytes) | frame_bad(bytes) | events_bad(bytes) {
+            return None;
+        }
+        Some(Held { bytes })
+    }
+}
+
 impl Held<'_> {
     fn counters(&self) -> Counters
         ensures { result ≡ (device_of (array_numbers self.now.bytes.now)).counters }
@@ -186,6 +202,16 @@ impl Held<'_> {
             events: self.events(),
         }
     }
+
+    // Made only once nothing is refused.
+    fn chip(&self) -> Chip
+        ensures { result ≡ chip_in self.now.bytes.now }
+    {
+        Chip {
+            part: self.bytes[0],
+            device: self.device(),
+        }
+    }
 }
 
 // A part's number and a record. Kept with the number: it is the array's first byte, and what asks for a part takes any number.
@@ -202,17 +228,10 @@ impl TryFrom<&[u8]> for Chip {
     ghost try_from_gives = { λ state r. (r ≡ chip_read state.now) × IfOk r (λ chip. state_of chip.part chip.device ≡ state.now) };
 
     fn try_from(state: &[u8]) -> Result<Chip, Refusal> {
-        let Ok(bytes) = <&[u8; STATE]>::try_from(state) else {
+        let Some(held) = Held::read(state) else {
             return Err(Refusal::Range);
         };
-        if clock_bad(bytes) | frame_bad(bytes) | events_bad(bytes) {
-            return Err(Refusal::Range);
-        }
-        let held = Held { bytes };
-        Ok(Chip {
-            part: bytes[0],
-            device: held.device(),
-        })
+        Ok(held.chip())
     }
 }
 
@@ -265,27 +284,34 @@ fn event_bytes(e: Events) -> [u8; 9]
 }
 
 // Bytes put at a place; those before it stay.
-fn put_at(bytes: &[u8], into: &mut [u8; STATE], at: usize)
-    requires { at + length bytes.now ≤ 142 }
+fn put_at(bytes: &[u8], into: &mut [u8], at: usize)
+    requires { at + length bytes.now ≤ length into.old }
     ensures { take (at + length bytes.now) into.new ≡ take at into.old ++ bytes.now }
 {
     into[at..at + bytes.len()].copy_from_slice(bytes);
+}
+
+// The array of a chip, put where one lies, so that none is made only to be copied.
+pub fn put_state(part: u8, d: Device, into: &mut [u8])
+    requires { length into.old ≡ 142 }
+    ensures { into.new ≡ state_of part d }
+{
+    into[0] = part;
+    put_at(&d.regs, into, 1);
+    put_at(&d.sram, into, 33);
+    put_at(&counts_bytes(d.counters), into, 97);
+    put_at(&frame_bytes(d), into, 112);
+    put_at(&d.load.bytes, into, 121);
+    put_at(&cycle_bytes(d.load, d.cycle), into, 129);
+    put_at(&event_bytes(d.events), into, 133);
 }
 
 impl From<Chip> for [u8; STATE] {
     ghost from_gives = { λ chip state. state ≡ state_of chip.part chip.device };
 
     fn from(chip: Chip) -> [u8; STATE] {
-        let d = chip.device;
         let mut state = [0u8; STATE];
-        state[0] = chip.part;
-        put_at(&d.regs, &mut state, 1);
-        put_at(&d.sram, &mut state, 33);
-        put_at(&counts_bytes(d.counters), &mut state, 97);
-        put_at(&frame_bytes(d), &mut state, 112);
-        put_at(&d.load.bytes, &mut state, 121);
-        put_at(&cycle_bytes(d.load, d.cycle), &mut state, 129);
-        put_at(&event_bytes(d.events), &mut state, 133);
+        put_state(chip.part, chip.device, &mut state);
         state
     }
 }
@@ -313,9 +339,12 @@ pub fn chip_of(state: &[u8], eeprom: usize, id: usize) -> Result<Chip, Refusal>
     ensures chip { IfOk result (λ chip. chip ≡ chip_in state.now) }
     ensures again { IfOk result (λ chip. state_of chip.part chip.device ≡ state.now) }
 {
-    let chip = Chip::try_from(state);
-    refusal(u64::from(part_of(state)), eeprom, id, chip.is_ok())?;
-    chip
+    let held = Held::read(state);
+    refusal(u64::from(part_of(state)), eeprom, id, held.is_some())?;
+    match held {
+        Some(held) => Ok(held.chip()),
+        None => Err(Refusal::Range),
+    }
 }
 
 // An answer with the levels of a record. Kept with its number: C reads it.

@@ -1,15 +1,16 @@
 -- Laws of one BCD field: what a valid value is, and what is known of a field after its step.
 -- Assumes nothing.
-use mathlib.Core.Path.{◌≡◌}
+use mathlib.Core.Path.{◌≡◌, ap}
 use mathlib.Core.Bool.{Bool, true, false, ◌&&◌}
-use Prim.Native.Nat.{ℕ, ◌+◌, ◌*◌, ◌/◌, ◌%◌, ◌<◌, ◌≤◌}
+use Prim.Native.Nat.{ℕ, ◌+◌, ◌-◌, ◌*◌, ◌/◌, ◌%◌, ◌<◌, ◌≤◌}
 use native.Mathlib.Omega.{arith}
 use borrow.Author.Tests.{leb-true, le-leb, ltb-true, eqb-true, eqb-false}
 use lib.Dec.{leb, ltb, eqb}
 use Rattle.base.specs.Words.{is_bcd, bcd_value, bcd_byte}
 use Rattle.base.proofs.Tests.{by_cases, both_left, both_right, pick_when}
 use Rattle.calendar.specs.declared.Step.{Step}
-use Rattle.calendar.specs.Field.{valid_field, next_field, on_carry, beside}
+use Rattle.calendar.specs.Field.{valid_field, next_field, on_carry, beside, beside_step}
+use Rattle.std.proofs.Math.Nat.{mod-eq_of_lt}
 use Rattle.std.proofs.lemmas.Nat.{div-add-mod', div_below, mul-le}
 
 -- K7. What is known of a valid value: its two digits, and where it lies.
@@ -85,3 +86,12 @@ beside_byte w b v p z h =
     let q : b / w < 256 / w = div_below b w (256 / w) p (omega arith) in
     let r : (b / w + 1) * w ≤ 256 / w * w = mul-le (b / w + 1) w (256 / w) w (omega arith) (omega arith) in
     omega (arith, div-add-mod' b w)
+
+-- K9. A field that fills its byte has no bits beside it.
+pub step_whole :
+    (first last b : ℕ) → Valid first last first → Valid first last last → b < 256 →
+    beside_step 256 b (next_field first last (b % 256)) ≡ next_field first last b
+step_whole first last b f l p =
+    let s = next_field first last b in
+    let v : b - b + s.value % 256 ≡ s.value = omega (arith, mod-eq_of_lt (next_byte first last b f l)) in
+    rw (mod-eq_of_lt p) (ap (λ (x : ℕ). record { value = x; carry = s.carry }) v)

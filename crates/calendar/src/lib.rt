@@ -6,6 +6,7 @@ pub mod field; // field.rt: one BCD field
 
 ghost use Rattle.std.specs.Prelude.{◌≡◌, ◌<◌};
 ghost use Rattle.calendar.specs.Field.{valid_field, on_carry};
+ghost use Rattle.calendar.specs.Clock.{valid_hundredths, first_hundredths, next_hundredths};
 ghost use Rattle.calendar.specs.Hours.{twelve_hour, hour_of_twelve, twelve_of_hour, next_twelve};
 ghost use Rattle.calendar.specs.Hours.{valid_hours, first_hours, next_hours};
 ghost use Rattle.calendar.specs.Date.{leap_year, month_length, date_last, valid_date, next_date};
@@ -56,7 +57,7 @@ pub struct Advanced {
 pub const HUNDREDTHS: Field = Field {
     first: 0x00,
     last: 0x99,
-    width: 256,
+    width: 256, // the whole byte
 };
 
 pub const SECONDS: Field = Field {
@@ -106,7 +107,26 @@ const TWELVE: Field = Field {
 };
 
 // 12 AM.
-const TWELVE_FIRST: u8 = 0x12;
+pub const TWELVE_FIRST: u8 = 0x12;
+
+// K7, K8. Hundredths fill their byte. Kept beside the field: of its width nothing else speaks.
+pub fn valid_hundredths(b: u8) -> bool
+    ensures { result ≡ valid_hundredths b }
+{
+    HUNDREDTHS.holds_valid(b)
+}
+
+pub fn first_hundredths(b: u8) -> u8
+    ensures { result ≡ first_hundredths b }
+{
+    HUNDREDTHS.first_beside(b)
+}
+
+pub fn next_hundredths(b: u8) -> Step<u8>
+    ensures { result ≡ next_hundredths b }
+{
+    HUNDREDTHS.next_beside(b)
+}
 
 // K10. A field moves only where the one before it carried.
 pub fn on_carry(carry: bool, x: u8, next: Step<u8>) -> Step<u8>

@@ -78,6 +78,9 @@ module _ (part k : ℕ) (a : Arrays) (e : k ≡ new_refusal part a) where
       ∙ no (called 0 [] (fresh_in part a)) (called (new_refusal part a) [] a) (ne_eqb (new_refusal part a) 0 (λ q. h (e ∙ q)))
 
   module _ (z : k ≡ 0) where
+    pub new_long : length a.state ≡ 142
+    new_long = eqb-true _ _ (is_there part (length a.eeprom) (length a.id) k (eqb (length a.state) 142) e z)
+
     pub new_done :
         (state ee id : List ℕ) (d : Device) → state ≡ state_of part d → d ≡ fresh → ee ≡ replicate (length a.eeprom) 255
         → id ≡ replicate (length a.id) 255 → called 0 [] (arrays state ee id) ≡ newly part a

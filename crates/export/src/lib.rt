@@ -7,7 +7,7 @@ ghost use Rattle.arrays.specs.Arrays.{arrays};
 ghost use Rattle.saved.specs.Answer.{load_line};
 ghost use Rattle.calls.specs.Calls.{called, newly, wrote, saves_state, loads_state};
 
-use arrays::{Chip, STATE};
+use arrays::STATE;
 use refusals::Refusal;
 use saved::LoadError;
 
@@ -21,10 +21,7 @@ pub fn mcp795_new(part: u64, state: &mut [u8], eeprom: &mut [u8], id: &mut [u8])
     }
     acts::page::erase(eeprom);
     acts::page::erase(id);
-    state.copy_from_slice(&<[u8; STATE]>::from(Chip {
-        part: part as u8,
-        device: record::fresh_device(),
-    }));
+    arrays::put_state(part as u8, record::fresh_device(), state);
     0
 }
 
@@ -84,10 +81,7 @@ pub fn mcp795_load(
     match saved::load(text, eeprom, id) {
         Ok(loaded) => {
             *line = [0];
-            state.copy_from_slice(&<[u8; STATE]>::from(Chip {
-                part: (loaded.part % 256) as u8,
-                device: loaded.device,
-            }));
+            arrays::put_state((loaded.part % 256) as u8, loaded.device, state);
             0
         }
         Err(error) => {

@@ -113,12 +113,15 @@ pub(crate) fn tell_at(rt: HostRuntime, place: usize, why: &Reason) -> Stop {
     tell(rt, shown(rt, place).as_slice(), why)
 }
 
-// An argument that is a name. Where it is too long, that is told.
+// An argument that is a name. Where it is too long, that is told. By a `match`: the closure of a `map_err` would make the room of a name once more.
 pub(crate) fn named(rt: HostRuntime, place: usize) -> Result<Name, Stop> {
-    argument(rt, place).map_err(|TooLong(beginning)| {
-        let error = io::Error::from_raw_os_error(ENAMETOOLONG);
-        tell_error(rt, beginning.as_slice(), error)
-    })
+    match argument(rt, place) {
+        Ok(name) => Ok(name),
+        Err(TooLong(beginning)) => {
+            let error = io::Error::from_raw_os_error(ENAMETOOLONG);
+            Err(tell_error(rt, beginning.as_slice(), error))
+        }
+    }
 }
 
 // What an argument is where an option may stand. The dash alone is a tape.

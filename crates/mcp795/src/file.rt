@@ -6,6 +6,7 @@ use crate::tell::{Reason, Stop, tell, tell_error};
 use std::fs::{File, OpenOptions};
 use std::io::{ErrorKind, Read, Write};
 use std::{fs, io, str};
+use text::{buffer, bytes};
 
 // The longest name that is taken from an argument, and room for what is put behind it.
 pub const NAME_ROOM: usize = 4096;
@@ -102,13 +103,13 @@ pub(crate) fn read<const N: usize>(rt: HostRuntime, name: &[u8]) -> Result<Bound
     try_read(rt, name).map_err(|why| tell(rt, name, &why))
 }
 
-// The path of a file beside another: its name with `.new` and a digit behind it.
+// The path of a file beside another: its name with `.new` and a digit behind it. It is put by what asks for room, so that the room is proved to hold all of it.
 fn path_beside(name: &[u8], digit: u8) -> Bounded<PATH_ROOM> {
-    let mut path = Bounded::new();
-    path.extend(name);
-    path.extend(b".new");
-    path.push(b'0' + digit % DIGITS);
-    path
+    let mut room = [0u8; PATH_ROOM];
+    let n = buffer::put(bytes::first(name, NAME_ROOM), &mut room, 0);
+    let m = buffer::put(b".new", &mut room, n);
+    let length = buffer::put_one(b'0' + digit % DIGITS, &mut room, m);
+    Bounded::first(room, length)
 }
 
 // Makes a file beside another, with the first digit whose name is free.

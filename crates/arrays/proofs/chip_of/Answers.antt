@@ -1,10 +1,10 @@
--- `arrays::chip_of`: by its calls (`read_told`).
+-- `arrays::chip_of`: the array of what was read is the same again (`made_again`).
 -- Assumes nothing.
-use mathlib.Core.Path.{◌∙◌}
-use Rattle.arrays.proofs.ChipLaws.{read_told}
+use Rattle.std.proofs.Common.{rules, ◌≡◌}
+use Rattle.arrays.proofs.ChipLaws.{made_again}
 use Rattle.arrays.proofs.chip_of.Goals as goal
 
-pub returns-clause-refused : goal.returns-clause-refused
-returns-clause-refused c =
-    let a = c.args in
-    read_told a.state.now c.try_from-chip.result c.is_ok.result c.from.result a.eeprom a.id c.try_from-chip.ensures.0 c.is_ok.ensures.value (c.from.ensures ∙ c.part_of.ensures) c.in_ok-refusal.ensures
+pub returns-in-Some-clause-again : goal.returns-in-Some-clause-again
+returns-in-Some-clause-again c =
+    let p : c.in-Some.held.bytes.now ≡ c.args.state.now = search rules in
+    made_again _ _ p c.in-Some.held.is_state c.chip.ensures (λ k. (c.type_inv.state k).fits)

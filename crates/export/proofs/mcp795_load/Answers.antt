@@ -30,7 +30,7 @@ pub returns-in-Ok : goal.returns-in-Ok
 returns-in-Ok c =
     let a = c.args in
     let l = c.in-Ok.loaded in
-    load_done a.text.now (arrays a.state.now a.eeprom.now a.id.now) c.if-state-ne-STATE.false (loading 0 0 l.part (world l.device c.load.new.eeprom c.load.new.id)) (c.in-Ok.ensures 0 fresh) _ refl (c.copy_from_slice.ensures.after ∙ c.from-in-Ok.ensures)
+    load_done a.text.now (arrays a.state.now a.eeprom.now a.id.now) c.if-state-ne-STATE.false (loading 0 0 l.part (world l.device c.load.new.eeprom c.load.new.id)) (c.in-Ok.ensures 0 fresh) _ refl c.put_state.ensures
 
 pub returns-in-Err : goal.returns-in-Err
 returns-in-Err c =

@@ -4,7 +4,7 @@ use Rattle.std.proofs.Common.{refl, ap, ◌∙◌, ℕ, []}
 use Rattle.refusals.proofs.NumberLaws.{refusal_not_zero}
 use Rattle.arrays.specs.Arrays.{arrays}
 use Rattle.calls.specs.Calls.{called}
-use Rattle.calls.proofs.CallLaws.{new_refused, new_done}
+use Rattle.calls.proofs.CallLaws.{new_refused, new_long, new_done}
 use Rattle.export.proofs.mcp795_new.Goals as goal
 
 pub returns-in-Err : goal.returns-in-Err
@@ -14,7 +14,12 @@ returns-in-Err c =
     ap (λ (k : ℕ). called k [] its) (c.from-in-Err.ensures ∙ c.from.ensures)
     ∙ new_refused a.part _ its c.in-Err.ensures (refusal_not_zero c.in-Err.refusal)
 
+pub put_state-requires : goal.put_state-requires
+put_state-requires c =
+    let a = c.args in
+    new_long a.part 0 (arrays a.state.now a.eeprom.now a.id.now) c.in_default.ensures refl
+
 pub returns : goal.returns
 returns c =
     let a = c.args in
-    new_done a.part 0 (arrays a.state.now a.eeprom.now a.id.now) c.in_default.ensures refl _ _ _ _ (c.copy_from_slice.ensures.after ∙ c.from-2.ensures) c.fresh_device.ensures c.erase.ensures c.erase-2.ensures
+    new_done a.part 0 (arrays a.state.now a.eeprom.now a.id.now) c.in_default.ensures refl _ _ _ _ c.put_state.ensures c.fresh_device.ensures c.erase.ensures c.erase-2.ensures
